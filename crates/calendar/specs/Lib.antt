@@ -1,0 +1,3 @@
+-- What the contracts of `calendar` cite.
+pub mod Calendar
+pub mod Cycle

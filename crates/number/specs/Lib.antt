@@ -1,0 +1,3 @@
+-- What the contracts of `number` cite.
+pub mod Widths
+pub mod Decimal

@@ -1,0 +1,2 @@
+-- What the contracts of every crate answer in.
+pub mod Outcome

@@ -1,0 +1,34 @@
+-- The answer of a reader, in which every definition of the project is given: a value, or one number of document 01's list,
+-- "Refusals, in checking order". Assumes nothing.
+use Prim.Native.Nat.{ℕ}
+use Rattle.refusal.specs.declared.Refusal.{Refusal}
+use Rattle.refusal.specs.declared.Refusal.the-variants.{NotUtf8, Date, Separator, Time, Tail, Range, TimeOfDay, Interval, RepeatedUnit, Overflow, Narrowed, SiteStamp}
+
+-- a value and nothing else, or a refusal's number and nothing else
+pub data Outcome (A : Type 0) : Type 0 where
+  accepted : A → Outcome A
+  refused : ℕ → Outcome A
+
+-- document 01's number of each refusal
+abbrev pub numberOf : Refusal → ℕ
+numberOf NotUtf8 = 1
+numberOf Date = 2
+numberOf Separator = 3
+numberOf Time = 4
+numberOf Tail = 5
+numberOf Range = 6
+numberOf TimeOfDay = 7
+numberOf Interval = 8
+numberOf RepeatedUnit = 9
+numberOf Overflow = 10
+numberOf Narrowed = 11
+numberOf SiteStamp = 12
+
+-- a refusal as an outcome
+abbrev pub because : {A : Type 0} → Refusal → Outcome A
+because why = refused (numberOf why)
+
+-- go on with an accepted value; a refusal stands
+abbrev pub andThen : {A B : Type 0} → Outcome A → (A → Outcome B) → Outcome B
+andThen (accepted v) next = next v
+andThen (refused n) next = refused n

@@ -1,0 +1,4 @@
+-- Laws that belong to no one function.
+pub mod Bools
+pub mod Computed
+pub mod DigitLaws
