@@ -2,3 +2,6 @@
 pub mod Bools
 pub mod Computed
 pub mod DigitLaws
+pub mod Utf8Rows
+pub mod Utf8Steps
+pub mod Utf8Agrees
