@@ -2,6 +2,9 @@
 pub mod Bools
 pub mod Computed
 pub mod DigitLaws
+pub mod Parts
 pub mod Utf8Rows
 pub mod Utf8Steps
 pub mod Utf8Agrees
+pub mod WhiteAgrees
+pub mod TrimLaws

@@ -1,3 +1,5 @@
 -- What the contracts of `text` cite.
 pub mod Digits
 pub mod Utf8
+pub mod WhiteSpace
+pub mod Trim
