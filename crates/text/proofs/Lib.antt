@@ -8,3 +8,4 @@ pub mod Utf8Steps
 pub mod Utf8Agrees
 pub mod WhiteAgrees
 pub mod TrimLaws
+pub mod TrimAgrees

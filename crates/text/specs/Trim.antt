@@ -1,5 +1,5 @@
 -- Trimming (document 01): "tab, line feed, form feed, carriage return and space from both ends, not vertical tab".
--- `Trimmed` says what a trimmed text is, `trimmed` computes it, and `Rattle.text.proofs.TrimLaws.agrees` joins them. Assumes nothing.
+-- `Trimmed` says what a trimmed text is, `trimmed` computes it, and `Rattle.text.proofs.TrimAgrees.agrees` joins them. Assumes nothing.
 use mathlib.Core.Path.{_≡_}
 use mathlib.Core.Bool.{Bool, true, false, cond, _&&_, _||_}
 use mathlib.Core.List.{List, [], _∷_, _++_}
