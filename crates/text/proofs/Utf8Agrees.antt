@@ -45,23 +45,22 @@ module _ (c : ℕ) (t : List ℕ) where
   read-4 l h p e w =
       rw (le-ltb c 0x80 (omega arith), le-ltb c 0x800 (omega arith), le-ltb c 0x10000 p)
       (
-        lead 0x80 0xBF (0xF0 + c / 262144) _ 3 l h e ∙
-        more 2 l h (0x80 + c / 4096 % 64) _ w ∙
-        more 1 0x80 0xBF (0x80 + c / 64 % 64) _ (later (c / 64)) ∙
-        more 0 0x80 0xBF (0x80 + c % 64) t (later c)
+      lead 0x80 0xBF (0xF0 + c / 262144) _ 3 l h e ∙
+      more 2 l h (0x80 + c / 4096 % 64) _ w ∙
+      more 1 0x80 0xBF (0x80 + c / 64 % 64) _ (later (c / 64)) ∙
+      more 0 0x80 0xBF (0x80 + c % 64) t (later c)
       )
 
 -- a scalar value is at most 10FFFF, and below the surrogates or above them
 is-scalar : (c : ℕ) → scalar c ≡ true → (c ≤ 0x10FFFF) × ((c < 0xD800) ⊎ (0xDFFF < c))
-is-scalar c e =
-    (
-      leb-true c 0x10FFFF (and-left (leb c 0x10FFFF) (not (within 0xD800 c 0xDFFF)) e),
-      by-test (leb 0xD800 c)
+is-scalar c e = (
+  leb-true c 0x10FFFF (and-left (leb c 0x10FFFF) (not (within 0xD800 c 0xDFFF)) e),
+  by-test (leb 0xD800 c)
       (λ p. by-test (leb c 0xDFFF)
       (λ q. both-ways (not (within 0xD800 c 0xDFFF)) (rw (p, q)) (and-right (leb c 0x10FFFF) (not (within 0xD800 c 0xDFFF)) e))
       (λ q. inr (leb-false c 0xDFFF q)))
       (λ p. inl (leb-false 0xD800 c p)),
-    )
+)
 
 below : (c : ℕ) → c < 0xD800 → scalar c ≡ true
 below c p = rw (le-leb c 0x10FFFF (omega arith), within-under 0xD800 c 0xDFFF p)

@@ -9,13 +9,25 @@ pub fn follow(b: u8) -> Follow
     ensures { λ r. ⌜ r ≡ follows table b ⌝ }
 {
     if b < 0x80 {
-        return Follow { count: 0, low: 0x80, high: 0xBF };
+        return Follow {
+            count: 0,
+            low: 0x80,
+            high: 0xBF,
+        };
     }
     if b < 0xC2 {
-        return Follow { count: 1, low: 1, high: 0 };
+        return Follow {
+            count: 1,
+            low: 1,
+            high: 0,
+        };
     }
     if b < 0xE0 {
-        return Follow { count: 1, low: 0x80, high: 0xBF };
+        return Follow {
+            count: 1,
+            low: 0x80,
+            high: 0xBF,
+        };
     }
     if b < 0xF0 {
         return follow_two(b);
@@ -60,15 +72,31 @@ fn follow_two(b: u8) -> Follow
     ensures { λ r. ⌜ r ≡ follows table b ⌝ }
 {
     if b == 0xE0 {
-        return Follow { count: 2, low: 0xA0, high: 0xBF };
+        return Follow {
+            count: 2,
+            low: 0xA0,
+            high: 0xBF,
+        };
     }
     if b < 0xED {
-        return Follow { count: 2, low: 0x80, high: 0xBF };
+        return Follow {
+            count: 2,
+            low: 0x80,
+            high: 0xBF,
+        };
     }
     if b == 0xED {
-        return Follow { count: 2, low: 0x80, high: 0x9F };
+        return Follow {
+            count: 2,
+            low: 0x80,
+            high: 0x9F,
+        };
     }
-    Follow { count: 2, low: 0x80, high: 0xBF }
+    Follow {
+        count: 2,
+        low: 0x80,
+        high: 0xBF,
+    }
 }
 
 // The same from F0 on.
@@ -77,13 +105,29 @@ fn follow_three(b: u8) -> Follow
     ensures { λ r. ⌜ r ≡ follows table b ⌝ }
 {
     if b == 0xF0 {
-        return Follow { count: 3, low: 0x90, high: 0xBF };
+        return Follow {
+            count: 3,
+            low: 0x90,
+            high: 0xBF,
+        };
     }
     if b < 0xF4 {
-        return Follow { count: 3, low: 0x80, high: 0xBF };
+        return Follow {
+            count: 3,
+            low: 0x80,
+            high: 0xBF,
+        };
     }
     if b == 0xF4 {
-        return Follow { count: 3, low: 0x80, high: 0x8F };
+        return Follow {
+            count: 3,
+            low: 0x80,
+            high: 0x8F,
+        };
     }
-    Follow { count: 1, low: 1, high: 0 }
+    Follow {
+        count: 1,
+        low: 1,
+        high: 0,
+    }
 }

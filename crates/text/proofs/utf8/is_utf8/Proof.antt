@@ -49,13 +49,12 @@ loop-again : tie.Need-loop-again Inv-loop μ-loop
 loop-again c =
     let l = c .before .before .before in
     let s = l .before .before .args .s .now in
-    let h = c .before .before .loop-test .taken in
-    (
+    let h = c .before .before .loop-test .taken in (
       omega arith,
       ⊎-elim
-      (λ w. rw (w .2, w .3, w .4) (sym (first s (l .loop .i) (l .loop .count) (l .loop .low) (l .loop .high) (w .1 .result) h (w .0 .taken) (w .1 .ensures)) ∙ l .loop .inv .1))
-      (λ w. rw (w .3, w .4, w .5) (sym (next s (l .loop .i) (l .loop .low) (l .loop .high) h (l .loop .count) (w .0 .left) (w .1 .left) (w .2 .left)) ∙ l .loop .inv .1))
-      (c .if1 .came),
+          (λ w. rw (w .2, w .3, w .4) (sym (first s (l .loop .i) (l .loop .count) (l .loop .low) (l .loop .high) (w .1 .result) h (w .0 .taken) (w .1 .ensures)) ∙ l .loop .inv .1))
+          (λ w. rw (w .3, w .4, w .5) (sym (next s (l .loop .i) (l .loop .low) (l .loop .high) h (l .loop .count) (w .0 .left) (w .1 .left) (w .2 .left)) ∙ l .loop .inv .1))
+          (c .if1 .came),
     )
 
 returns-3 : tie.Need-returns-3 Inv-loop μ-loop
