@@ -1,6 +1,11 @@
 -- The answer of a reader, in which every definition of the project is given: a value, or one number of document 01's list,
 -- "Refusals, in checking order". Assumes nothing.
 use Prim.Native.Nat.{ℕ}
+use lib.IntN.{ℤ}
+use Rattle.refusal.specs.declared.Read32.{Read32}
+use Rattle.refusal.specs.declared.Read32.the-variants.{Value as Value32, Refused as Refused32}
+use Rattle.refusal.specs.declared.Read64.{Read64}
+use Rattle.refusal.specs.declared.Read64.the-variants.{Value as Value64, Refused as Refused64}
 use Rattle.refusal.specs.declared.Refusal.{Refusal}
 use Rattle.refusal.specs.declared.Refusal.the-variants.{NotUtf8, Date, Separator, Time, Tail, Range, TimeOfDay, Interval, RepeatedUnit, Overflow, Narrowed, SiteStamp}
 
@@ -32,3 +37,12 @@ because why = refused (numberOf why)
 abbrev pub andThen : {A B : Type 0} → Outcome A → (A → Outcome B) → Outcome B
 andThen (accepted v) next = next v
 andThen (refused n) next = refused n
+
+-- what the readers' answers say
+abbrev pub outcome64 : Read64 → Outcome ℤ
+outcome64 (Value64 z) = accepted z
+outcome64 (Refused64 why) = because why
+
+abbrev pub outcome32 : Read32 → Outcome ℤ
+outcome32 (Value32 z) = accepted z
+outcome32 (Refused32 why) = because why

@@ -29,6 +29,18 @@ pub enum Refusal {
     SiteStamp,
 }
 
+// A reader's answer of 64 bits.
+pub enum Read64 {
+    Value(i64),
+    Refused(Refusal),
+}
+
+// A reader's answer of 32 bits.
+pub enum Read32 {
+    Value(i32),
+    Refused(Refusal),
+}
+
 impl Refusal {
     // The number of a refusal in document 01's list.
     pub fn number(self) -> u8
