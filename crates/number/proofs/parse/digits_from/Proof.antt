@@ -1,3 +1,12 @@
+-- `number::parse::digits_from` meets its contract. The loop's invariant: what is read so far goes on to the digits and the number of
+-- the whole. The measure is what is left of the length. Assumes nothing.
+use mathlib.Core.Path.{_∙_}
+use Prim.Native.Nat.{_-_, _≤_}
+use native.Mathlib.Omega.{arith}
+use lib.ListN.{length}
+use borrow.Author.Needs.{needs}
+use mir.Syntax.{w64}
+use Rattle.number.proofs.Reading.{GoesOn, no-digits, no-digit-here, too-long, one-more, whole}
 use Rattle.number.proofs.parse.digits_from.Statement.{statement}
 use Rattle.number.proofs.parse.digits_from.Tie as tie
 use Rattle.number.proofs.parse.digits_from.Reads as reads
@@ -6,66 +15,71 @@ use Rattle.number.proofs.sign.signed_i64.Reads as signed-i64-reads
 use Rattle.text.proofs.digits.digit.Reads as digit-reads
 
 abbrev Inv-loop : tie.InvT-loop
-Inv-loop s at neg a₀ i₀ a i = ?
+Inv-loop s at neg a₀ i₀ a i = (i ≤ length s) × (a ≤ 9223372036854775809) × GoesOn s at i a
 
 abbrev μ-loop : tie.MeasureT-loop
-μ-loop s at neg a₀ i₀ a i = ?
+μ-loop s at neg a₀ i₀ a i = length s - i
 
--- src/parse.rt:20:9
 returns : tie.Need-returns Inv-loop μ-loop
-returns c = ?
+returns c =
+    let g = c .before .before .args in
+    no-digits w64 (g .neg) (g .s .now) (g .at) (c .if1 .taken)
 
--- src/parse.rt:24:5
 loop-holds : tie.Need-loop-holds Inv-loop μ-loop
-loop-holds c = ?
+loop-holds c = search needs
 
--- src/parse.rt:25:37
 shared-slice-read-digit : tie.Need-shared-slice-read-digit Inv-loop μ-loop
-shared-slice-read-digit c = ?
+shared-slice-read-digit c = search needs
 
--- src/parse.rt:25:13
 digit-requires : tie.Need-digit-requires Inv-loop μ-loop
-digit-requires c κs = ?
+digit-requires c κs = search needs
 
--- src/parse.rt:27:13
 returns-2 : tie.Need-returns-2 Inv-loop μ-loop
-returns-2 c = ?
+returns-2 c =
+    let d = c .before in
+    let k = d .before in
+    let l = k .before .before in
+    no-digit-here w64 (l .before .before .before .args .neg) (l .before .if1 .left) (l .loop .inv .2) (k .before .loop-test .taken)
+    (k .shared-slice-known2 .given (l .loop .i) .fits) (d .digit .ensures) (c .if2 .taken)
 
--- src/parse.rt:30:13
 returns-3 : tie.Need-returns-3 Inv-loop μ-loop
-returns-3 c = ?
+returns-3 c =
+    let d = c .before .before in
+    let k = d .before in
+    let l = k .before .before in
+    too-long w64 (l .before .before .before .args .neg) (l .before .if1 .left) (l .loop .inv .2) (k .before .loop-test .taken)
+    (k .shared-slice-known2 .given (l .loop .i) .fits) (d .digit .ensures) (c .before .if2 .left) (omega arith)
 
--- src/parse.rt:32:13
 mul-a : tie.Need-mul-a Inv-loop μ-loop
-mul-a c = ?
+mul-a c = search needs
 
--- src/parse.rt:32:22
 cast-a : tie.Need-cast-a Inv-loop μ-loop
-cast-a c = ?
+cast-a c = search needs
 
--- src/parse.rt:32:13
 add-a : tie.Need-add-a Inv-loop μ-loop
-add-a c = ?
+add-a c = search needs
 
--- src/parse.rt:33:9
 add-i : tie.Need-add-i Inv-loop μ-loop
-add-i c = ?
+add-i c = search needs
 
--- src/parse.rt:24:5
 loop-less : tie.Need-loop-less Inv-loop μ-loop
-loop-less c = ?
+loop-less c = search needs
 
--- src/parse.rt:24:5
 loop-again : tie.Need-loop-again Inv-loop μ-loop
-loop-again c = ?
+loop-again c =
+    let d = c .before .before in
+    let k = d .before in
+    let l = k .before .before in
+    (search needs, omega arith, one-more (l .loop .inv .2) (k .before .loop-test .taken) (k .shared-slice-known2 .given (l .loop .i) .fits) (d .digit .ensures) (c .before .if2 .left))
 
--- src/parse.rt:35:5
 signed-i64-requires : tie.Need-signed-i64-requires Inv-loop μ-loop
-signed-i64-requires c κs = ?
+signed-i64-requires c κs = search needs
 
--- src/parse.rt:15:1
 returns-4 : tie.Need-returns-4 Inv-loop μ-loop
-returns-4 c = ?
+returns-4 c =
+    let l = c .before .before in
+    c .signed-i64 .ensures ∙
+    whole w64 (l .before .before .before .args .neg) (l .before .if1 .left) (l .loop .inv .2) (c .before .loop-test .left)
 
 pub digits-from-spec : {M : Type 1} → statement M
 digits-from-spec =

@@ -1,4 +1,9 @@
+-- `number::parse::parse_i32` meets its contract: a number read at 64 bits and narrowed is read at 32. Assumes nothing.
+use mathlib.Core.Path.{_∙_}
+use mathlib.Core.Bool.{true}
+use lib.Dec.{lit<}
 use borrow.Author.Needs.{needs}
+use Rattle.number.proofs.Agreement.{from-64}
 use Rattle.number.proofs.parse.parse_i32.Statement.{statement}
 use Rattle.number.proofs.parse.parse_i32.Tie as tie
 use Rattle.number.proofs.parse.parse_i32.Reads as reads
@@ -24,11 +29,16 @@ enum-told c = search needs
 
 -- src/parse.rt:54:1
 returns : tie.Need-returns
-returns c = ?
+returns c =
+    let x = c .before .before in
+    let p = x .before .before in
+    c .narrow .ensures ∙ from-64 true 32 (lit< tt) (p .before .before .args .s .now) (p .parse-i64 .ensures) (x .x .given .1)
 
 -- src/parse.rt:54:1
 returns-2 : tie.Need-returns-2
-returns-2 c = ?
+returns-2 c =
+    let p = c .before .before in
+    from-64 true 32 (lit< tt) (p .before .before .args .s .now) (p .parse-i64 .ensures) (c .enum-told .given .1)
 
 pub parse-i32-spec : {M : Type 1} → statement M
 parse-i32-spec =
