@@ -2,6 +2,9 @@
 use mathlib.Core.Path.{_∙_}
 use mathlib.Core.Bool.{true}
 use lib.Dec.{lit<}
+use mir.Facts.{toZ-ofZ}
+use mir.Syntax.{w64}
+use mir.Val.{SFits}
 use borrow.Author.Needs.{needs}
 use Rattle.number.proofs.Agreement.{from-64}
 use Rattle.number.proofs.parse.parse_i32.Statement.{statement}
@@ -32,7 +35,8 @@ returns : tie.Need-returns
 returns c =
     let x = c .before .before in
     let p = x .before .before in
-    c .narrow .ensures ∙ from-64 true 32 (lit< tt) (p .before .before .args .s .now) (p .parse-i64 .ensures) (x .x .given .1)
+    let f : SFits w64 (x .x .given .0 .0) = record { sfits = c .before .known-told .given .0 .1 } in
+    rw (toZ-ofZ f) at (c .narrow .ensures) ∙ from-64 true 32 (lit< tt) (p .before .before .args .s .now) (p .parse-i64 .ensures) (x .x .given .1)
 
 -- src/parse.rt:54:1
 returns-2 : tie.Need-returns-2

@@ -2,6 +2,9 @@
 use mathlib.Core.Path.{sym, ap, _∙_}
 use mathlib.Core.Bool.{false}
 use lib.Dec.{lit<}
+use mir.Facts.{toZ-ofZ}
+use mir.Syntax.{w64}
+use mir.Val.{SFits}
 use borrow.Author.Needs.{needs}
 use Rattle.number.specs.Widths.{keep, inUnsigned}
 use Rattle.number.proofs.Agreement.{from-64}
@@ -47,7 +50,8 @@ returns-3 c =
     let x = c .before .before in
     let p = x .before .before in
     let s = p .before .before .before .before .before .args .s .now in
-    c .narrow-u32 .ensures ∙
+    let f : SFits w64 (x .x .given .0 .0) = record { sfits = c .before .known-told .given .0 .1 } in
+    rw (toZ-ofZ f) at (c .narrow-u32 .ensures) ∙
     (from-64 false 32 (lit< tt) s (p .parse-i64 .ensures) (x .x .given .1) ∙ sym (ap (keep (inUnsigned 32)) (alike s (p .before .if2 .left))))
 
 -- src/parse.rt:64:1
