@@ -1,24 +1,28 @@
 -- The definitions agree: what the grammar `Numeral` says of a text is what `numeral` computes, `inSigned` is the usual range of a
 -- signed width, and a number read at more bits and then narrowed is read at fewer. Assumes nothing.
 use mathlib.Core.Path.{_≡_, refl, sym, ap, _∙_}
-use mathlib.Core.Bool.{Bool, true, false, cond, _&&_, false≢true}
+use mathlib.Core.Bool.{Bool, true, false, _&&_, false≢true}
 use mathlib.Core.List.{List, [], _∷_}
 use mathlib.Core.Logic.{_↔_}
 use mathlib.Core.Option.{Option, none, some}
-use Prim.Native.Nat.{ℕ, _+_, _-_, _^_, _≤_, _<_}
+use Prim.Native.Nat.{ℕ, _-_, _^_, _<_}
 use native.Mathlib.Omega.{arith}
 use native.Mathlib.Nat.{lt-of-lt-of-le}
 use lib.Dec.{eqb}
 use lib.IntN.{ℤ, pos, negsuc}
 use lib.Pow.{pow-pos, pow-mono}
 use lib.Signed.{leZ, mag}
+use mir.Syntax.{w64}
+use mir.Facts.{toZ-ofZ}
 use borrow.Author.Tests.{eqb-true, ltb-true, lt-ltb, ne-eqb, le-leb}
 use Rattle.text.specs.Digits.{isDigit, digits, value}
 use Rattle.text.proofs.Bools.{by-test, both-ways, and-false, and-left, and-right, within-is}
 use Rattle.number.specs.declared.Int64.{Int64}
+use Rattle.number.specs.declared.Int64.the-variants.{Some as Some64, None as None64}
 use Rattle.number.specs.Widths.{inSigned, inType, keep, signed, int64}
 use Rattle.number.specs.Decimal.{Digits, one-or-more, Numeral, plain, plus, minus, unsigned, numeral, integer}
 use Rattle.number.proofs.Zed.{le-yes, of-mag}
+use Rattle.number.proofs.Ranges.{rd}
 
 -- ---- the grammar and the computation
 
@@ -26,12 +30,12 @@ written : (neg : Bool) {t : List ℕ} → Digits t → unsigned neg t ≡ some (
 written neg (one-or-more p q) = rw (p, q)
 
 -- a byte that is a digit is no sign
-no-sign : (b c : ℕ) → c < 0x30 → isDigit b ≡ true → eqb b c ≡ false
-no-sign b c h e = ne-eqb b c (λ p. omega (arith, within-is 0x30 b 0x39 e))
+digit-no-sign : (b c : ℕ) → c < 0x30 → isDigit b ≡ true → eqb b c ≡ false
+digit-no-sign b c h e = ne-eqb b c (λ p. omega (arith, within-is 0x30 b 0x39 e))
 
 computes : (sign : Bool) {t : List ℕ} {z : ℤ} → Numeral sign t z → numeral sign t ≡ some z
 computes sign (plain (one-or-more {b} {t} p q)) =
-    rw (no-sign b 0x2B (omega arith) p, no-sign b 0x2D (omega arith) p, and-false sign) (written false (one-or-more p q))
+    rw (digit-no-sign b 0x2B (omega arith) p, digit-no-sign b 0x2D (omega arith) p, and-false sign) (written false (one-or-more p q))
 computes sign (plus d) = written false d
 computes sign (minus e d) = rw e (written true d)
 
@@ -90,6 +94,14 @@ below false j k h (negsuc n) e = absurd (false≢true e)
 pub fewer-bits : (sign : Bool) (j k : ℕ) → j < k → (t : List ℕ) → keep (inType sign j) (integer true k t) ≡ keep (inType sign j) (numeral true t)
 fewer-bits sign j k h t = twice (inType true k) (inType sign j) (below sign j k h) (numeral true t)
 
--- the same of an answer r of 64 bits that proves to be v
-pub from-64 : (sign : Bool) (j : ℕ) → j < 64 → (t : List ℕ) {r v : Int64} → int64 r ≡ integer true 64 t → r ≡ v → keep (inType sign j) (int64 v) ≡ keep (inType sign j) (numeral true t)
-from-64 sign j h t p q = rw (← q, p) (fewer-bits sign j 64 h t)
+-- the same of an answer r of 64 bits: it holds x, as a signed local hands it on, or nothing
+
+module _ (sign : Bool) (j : ℕ) (h : j < 64) (t : List ℕ) {r : Int64} (p : int64 r ≡ integer true 64 t) where
+  read-as : {v : Int64} → r ≡ v → keep (inType sign j) (int64 v) ≡ keep (inType sign j) (numeral true t)
+  read-as q = ap (keep (inType sign j)) (ap int64 (sym q) ∙ p) ∙ fewer-bits sign j 64 h t
+
+  pub read-some : {x : ℤ} → r ≡ Some64 x → mag x < 2 ^ 63 → keep (inType sign j) (some (rd w64 x)) ≡ keep (inType sign j) (numeral true t)
+  read-some {x} q l = rw (toZ-ofZ {w = w64} {z = x} (record { sfits = l })) (read-as q)
+
+  pub read-none : r ≡ None64 → none ≡ keep (inType sign j) (numeral true t)
+  read-none q = read-as q

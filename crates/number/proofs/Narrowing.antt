@@ -1,20 +1,20 @@
--- A signed number as one of another width, signed or not, and sums and products of 32 bits at 64. Assumes nothing.
+-- A signed number as one of another width, signed or not, and sums and products at a larger width, where they fit. Assumes nothing.
 use mathlib.Core.Path.{_≡_, refl}
 use mathlib.Core.Bool.{true, false}
 use mathlib.Core.Option.{none, some}
-use Prim.Native.Nat.{ℕ, zero, suc, _-_, _*_, _^_, _≤_, _<_}
+use Prim.Native.Nat.{ℕ, suc, _+_, _-_, _*_, _^_, _≤_, _<_}
 use native.Mathlib.Omega.{arith}
-use native.Mathlib.Nat.{mul-le-mul}
-use lib.Dec.{T}
-use lib.Pow.{pow-pos}
-use lib.IntN.{ℤ, pos, negsuc, natAbs, negℤ, _+ℤ_, _*ℤ_}
+use native.Mathlib.Nat.{mul-le-mul, two-pow-succ}
+use lib.Dec.{T, leb}
+use lib.Pow.{pow-pos, pow-mono, pow-lt, pow-add}
+use lib.IntN.{ℤ, pos, negsuc, natAbs, _+ℤ_, _*ℤ_}
 use lib.Signed.{ltZ, mag, nonNeg, natAbs-le}
-use mir.Syntax.{Width, w32, w64}
+use mir.Syntax.{Width}
 use mir.Val.{Fits, SFits, hbits, bits}
-use mir.Facts.{toZ-ofZ}
+use mir.Facts.{toZ-ofZ, sfits-widen}
 use borrow.Author.Tests.{lt-ltb, le-ltb}
 use Rattle.number.specs.Widths.{fit, fitUnsigned}
-use Rattle.number.proofs.Zed.{add-pn, lt-yes, lt-no, of-fits, fits-of}
+use Rattle.number.proofs.Zed.{mag-neg, add-pn, lt-yes, lt-no, of-fits, fits-of}
 use Rattle.number.proofs.Ranges.{rd, top, bottom, fit-yes, fit-above, fit-below}
 
 -- ---- a number x of width w as one of the signed width v
@@ -65,21 +65,29 @@ module _ {w : Width} {x : ℤ} (f : SFits w x) (v : Width) where
   pub nat-narrowed : ltZ (rd w x) (pos 0) ≡ false → ltZ (pos (2 ^ bits v - 1)) (rd w x) ≡ false → some (pos (natAbs (rd w x))) ≡ fitUnsigned (bits v) x
   nat-narrowed = rw (toZ-ofZ f) (λ t u. nat-in v x t u .1)
 
--- ---- two 32-bit numbers at 64 bits: the sum and the product fit
-
-mag-neg : (n : ℕ) → mag (negℤ (pos n)) ≤ n
-mag-neg zero = omega arith
-mag-neg (suc n) = omega arith
+-- ---- two numbers of width w at a larger width v
 
 mag-mul : (a b : ℤ) → mag (a *ℤ b) ≤ natAbs a * natAbs b
 mag-mul (pos a) (pos b) = omega arith
-mag-mul (pos a) (negsuc b) = mag-neg (a * suc b)
-mag-mul (negsuc a) (pos b) = mag-neg (suc a * b)
+mag-mul (pos a) (negsuc b) = mag-neg (a * suc b) (omega arith)
+mag-mul (negsuc a) (pos b) = mag-neg (suc a * b) (omega arith)
 mag-mul (negsuc a) (negsuc b) = omega arith
 
-module _ {a b : ℤ} (fa : SFits w32 a) (fb : SFits w32 b) where
-  pub wide-sum : SFits w64 (a +ℤ b)
-  wide-sum = fits-of w64 (a +ℤ b) (omega (arith, add-pn a b, of-fits w32 a fa, of-fits w32 b fb))
+-- the sum fits, and where v has more than twice the bits the product does
+module _ {w : Width} (v : Width) {a b : ℤ} (fa : SFits w a) (fb : SFits w b) where
+  pub wide-sum : hbits w < hbits v → SFits v (a +ℤ b)
+  wide-sum l = fits-of v (a +ℤ b) (omega (arith, add-pn a b, of-fits w a fa, of-fits w b fb, two-pow-succ (hbits w), pow-mono {i = suc (hbits w)} {j = hbits v} l))
 
-  pub wide-product : SFits w64 (a *ℤ b)
-  wide-product = record { sfits = omega (arith, mag-mul a b, mul-le-mul (natAbs-le a (fa .sfits)) (natAbs-le b (fb .sfits))) }
+  pub wide-product : hbits w + hbits w < hbits v → SFits v (a *ℤ b)
+  wide-product l = record { sfits = omega (arith, mag-mul a b, mul-le-mul (natAbs-le a (fa .sfits)) (natAbs-le b (fb .sfits)), pow-add 2 (hbits w) (hbits w), pow-lt {i = hbits w + hbits w} {j = hbits v} l) }
+
+-- each is cast to v, and the result is read back there
+pub widens : {w v : Width} {a : ℤ} → SFits w a → T (leb (hbits w) (hbits v)) → SFits v (rd w a)
+widens f l = rw (toZ-ofZ f) (sfits-widen l f)
+
+module _ {w v : Width} {a b : ℤ} (fa : SFits w a) (fb : SFits w b) (l : T (leb (hbits w) (hbits v))) (op : ℤ → ℤ → ℤ) (f : SFits v (op a b)) where
+  pub wide-fits : SFits v (op (rd v (rd w a)) (rd v (rd w b)))
+  wide-fits = rw (toZ-ofZ fa, toZ-ofZ fb, toZ-ofZ {w = v} (sfits-widen l fa), toZ-ofZ {w = v} (sfits-widen l fb)) f
+
+  pub wide-is : rd v (op (rd v (rd w a)) (rd v (rd w b))) ≡ op a b
+  wide-is = rw (toZ-ofZ fa, toZ-ofZ fb, toZ-ofZ {w = v} (sfits-widen l fa), toZ-ofZ {w = v} (sfits-widen l fb), toZ-ofZ f)

@@ -27,9 +27,9 @@ by-size (pos a) (negsuc b) = rw (le-ltb a 0 zero-le)
 by-size (negsuc a) (pos b) = rw (le-ltb b 0 zero-le)
 by-size (negsuc a) (negsuc b) = refl
 
-no-sign : (s : Bool) → signed s 0 ≡ pos 0
-no-sign true = refl
-no-sign false = refl
+no-size : (s : Bool) → signed s 0 ≡ pos 0
+no-size true = refl
+no-size false = refl
 
 -- m and n are the factors' sizes, as `magnitude` gives them
 module _ {w : Width} {a b : ℤ} (fa : SFits w a) (fb : SFits w b) {m n : ℕ} (em : m ≡ natAbs (rd w a)) (en : n ≡ natAbs (rd w b)) where
@@ -37,7 +37,7 @@ module _ {w : Width} {a b : ℤ} (fa : SFits w a) (fb : SFits w b) {m n : ℕ} (
   sizes = rw (em, en, toZ-ofZ fa, toZ-ofZ fb) (by-size a b)
 
   pub zero-product : m ≡ 0 → some (pos 0) ≡ fit (hbits w) (a *ℤ b)
-  zero-product z = rw (← sizes, z, zero-mul, no-sign, lt-ltb 0 (2 ^ hbits w) (pow-pos (hbits w)))
+  zero-product z = rw (← sizes, z, zero-mul, no-size, lt-ltb 0 (2 ^ hbits w) (pow-pos (hbits w)))
 
   pub product-fits : (m ≡ 0 → ⊥) → n ≤ 2 ^ hbits w / m → Fits w (m * n)
   product-fits z h = record { fits = omega (arith, le-div-iff-mul-le {k = m} {x = n} {y = 2 ^ hbits w} (omega arith) .0 h, pow-bits w, pow-pos (hbits w)) }

@@ -11,12 +11,8 @@ use mir.Syntax.{Width}
 use mir.Val.{SFits, hbits}
 use mir.Facts.{toZ-ofZ}
 use Rattle.number.specs.Widths.{floor}
-use Rattle.number.proofs.Zed.{add-pn, sub-ℤ, le-yes, le-no, of-fits, fits-of, eq-of, P-neg, N-neg}
+use Rattle.number.proofs.Zed.{mag-neg, add-pn, sub-ℤ, le-yes, le-no, of-fits, fits-of, eq-of, P-neg, N-neg}
 use Rattle.number.proofs.Ranges.{rd}
-
-mag-neg : (r : ℕ) {a : ℕ} → r ≤ suc a → mag (negℤ (pos r)) ≤ a
-mag-neg zero h = omega arith
-mag-neg (suc r) h = omega arith
 
 mag-quot : (z : ℤ) (d : ℕ) → mag (quotZ z (pos d)) ≤ mag z
 mag-quot (pos a) d = div-le-self a d

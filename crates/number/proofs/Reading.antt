@@ -3,7 +3,7 @@ use mathlib.Core.Path.{_≡_, refl, sym, _∙_}
 use mathlib.Core.Bool.{Bool, true, false, cond}
 use mathlib.Core.List.{List, [], _∷_}
 use mathlib.Core.Option.{none, some}
-use Prim.Native.Nat.{ℕ, _+_, _*_, _^_, _≤_, _<_}
+use Prim.Native.Nat.{ℕ, _+_, _-_, _*_, _^_, _≤_, _<_}
 use native.Mathlib.Omega.{arith}
 use lib.ListN.{getD, length, drop, length-drop}
 use mir.Syntax.{Width}
@@ -12,8 +12,8 @@ use borrow.Author.Tests.{eq-eqb, ne-eqb}
 use Rattle.text.specs.Digits.{digits, value, digitOf}
 use Rattle.text.proofs.Bools.{and-false}
 use Rattle.text.proofs.DigitLaws.{digits-on, digits-off, digits-end, value-on, value-end, grows}
-use Rattle.number.specs.Widths.{fit, signed, keep, inSigned}
-use Rattle.number.specs.Decimal.{unsigned, numeral}
+use Rattle.number.specs.Widths.{fit, signed, keep, inSigned, inUnsigned, inType}
+use Rattle.number.specs.Decimal.{unsigned, numeral, integer}
 use Rattle.number.proofs.Sizes.{too-large}
 
 -- ---- the digits from place at on, after a sign
@@ -63,29 +63,29 @@ one-more {s} {at} {i} {a} {d} r h f e g = record { number = sym (value-on s i d 
 
 -- ---- a text by its first byte
 
-module _ (sign : Bool) where
-  pub no-text : (s : List ℕ) → length s ≡ 0 → numeral sign s ≡ none
+module _ (sign : Bool) (bits : ℕ) where
+  pub no-text : (s : List ℕ) → length s ≡ 0 → none ≡ integer sign bits s
   no-text [] h = refl
   no-text (b ∷ t) h = absurd (omega arith)
 
-  pub after-plus : (s : List ℕ) → getD s 0 0 ≡ 0x2B → numeral sign s ≡ unsigned false (drop 1 s)
+  pub after-plus : (s : List ℕ) → getD s 0 0 ≡ 0x2B → keep (inType sign bits) (unsigned false (drop 1 s)) ≡ integer sign bits s
   after-plus [] e = absurd (omega arith)
   after-plus (b ∷ t) e = rw (eq-eqb b 0x2B e)
 
-  pub no-sign : (s : List ℕ) → (getD s 0 0 ≡ 0x2B → ⊥) → (getD s 0 0 ≡ 0x2D → ⊥) → numeral sign s ≡ unsigned false s
+  pub no-sign : (s : List ℕ) → (getD s 0 0 ≡ 0x2B → ⊥) → (getD s 0 0 ≡ 0x2D → ⊥) → keep (inType sign bits) (unsigned false s) ≡ integer sign bits s
   no-sign [] p q = refl
   no-sign (b ∷ t) p q = rw (ne-eqb b 0x2B p, ne-eqb b 0x2D q, and-false sign)
 
-pub after-minus : (s : List ℕ) → getD s 0 0 ≡ 0x2D → numeral true s ≡ unsigned true (drop 1 s)
-after-minus [] e = absurd (omega arith)
-after-minus (b ∷ t) e = rw e
+module _ (bits : ℕ) where
+  pub after-minus : (s : List ℕ) → getD s 0 0 ≡ 0x2D → keep (inSigned (bits - 1)) (unsigned true (drop 1 s)) ≡ integer true bits s
+  after-minus [] e = absurd (omega arith)
+  after-minus (b ∷ t) e = rw e
 
--- a minus is no sign of an unsigned type, and another first byte is read alike
+  -- a minus is no sign of an unsigned type, and behind another first byte its numbers are those of a signed type
+  pub refused : (s : List ℕ) → getD s 0 0 ≡ 0x2D → none ≡ integer false bits s
+  refused [] e = refl
+  refused (b ∷ t) e = rw e
 
-pub refused : (s : List ℕ) → getD s 0 0 ≡ 0x2D → numeral false s ≡ none
-refused [] e = refl
-refused (b ∷ t) e = rw e
-
-pub alike : (s : List ℕ) → (getD s 0 0 ≡ 0x2D → ⊥) → numeral false s ≡ numeral true s
-alike [] q = refl
-alike (b ∷ t) q = rw (ne-eqb b 0x2D q)
+  pub alike : (s : List ℕ) → (getD s 0 0 ≡ 0x2D → ⊥) → keep (inUnsigned bits) (numeral true s) ≡ integer false bits s
+  alike [] q = refl
+  alike (b ∷ t) q = rw (ne-eqb b 0x2D q)

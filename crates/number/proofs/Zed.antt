@@ -60,6 +60,12 @@ pub mul-N : (z : ℤ) (k : ℕ) → N (z *ℤ pos k) ≡ N z * k
 mul-N (pos a) k = sym (zero-mul k)
 mul-N (negsuc a) k = N-neg (pos (suc a * k))
 
+-- ---- the size of a negation, as the range takes it
+
+pub mag-neg : (n : ℕ) {a : ℕ} → n ≤ suc a → mag (negℤ (pos n)) ≤ a
+mag-neg zero h = omega arith
+mag-neg (suc n) h = omega arith
+
 -- ---- orders and equations
 
 pub le-yes : (a b : ℤ) → leZ a b ≡ true → P a + N b ≤ P b + N a

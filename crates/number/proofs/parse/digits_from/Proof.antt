@@ -9,10 +9,6 @@ use mir.Syntax.{w64}
 use Rattle.number.proofs.Reading.{GoesOn, no-digits, no-digit-here, too-long, one-more, whole}
 use Rattle.number.proofs.parse.digits_from.Statement.{statement}
 use Rattle.number.proofs.parse.digits_from.Tie as tie
-use Rattle.number.proofs.parse.digits_from.Reads as reads
-use Rattle.number.proofs.parse.digits_from.Lts as lts
-use Rattle.number.proofs.sign.signed_i64.Reads as signed-i64-reads
-use Rattle.text.proofs.digits.digit.Reads as digit-reads
 
 abbrev Inv-loop : tie.InvT-loop
 Inv-loop s at neg a₀ i₀ a i = (i ≤ length s) × (a ≤ 9223372036854775809) × GoesOn s at i a
