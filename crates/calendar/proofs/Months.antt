@@ -1,0 +1,32 @@
+-- The days of a year before each month: by the one formula for both kinds of year, and month by month. Assumes nothing.
+use mathlib.Core.Path.{_≡_}
+use mathlib.Core.Bool.{Bool, true, false, cond}
+use mathlib.Core.List.{List, [], _∷_}
+use Prim.Native.Nat.{ℕ, _+_, _-_, _*_, _/_, _≤_, _<_}
+use native.Mathlib.Numerals.{add-one}
+use lib.Dec.{T, eqb, eqb→eq, leb, leb→le}
+use lib.ListN.{List·getD-eq-default}
+use Rattle.text.proofs.Computed.{allBelow, below}
+use Rattle.calendar.specs.Calendar.{monthDays, before}
+
+-- what the formula counts too many: 2 days for February, or 1 in a leap year
+abbrev pub over : Bool → ℕ → ℕ
+over l m = cond (leb m 2) 0 (cond l 1 2)
+
+computed : (l : Bool) → T (allBelow (λ (m : ℕ). eqb ((367 * m - 362) / 12) (before l m + over l m)) 14)
+unfolding before
+computed true = tt
+computed false = tt
+
+pub formula : (l : Bool) (m : ℕ) → m < 14 → (367 * m - 362) / 12 ≡ before l m + over l m
+formula l m h =
+    eqb→eq ((367 * m - 362) / 12) (before l m + over l m)
+    (below (λ (i : ℕ). eqb ((367 * i - 362) / 12) (before l i + over l i)) 14 (computed l) m h)
+
+pub next-month : (l : Bool) (m : ℕ) → before l (m + 1) ≡ before l m + monthDays l m
+unfolding before
+next-month l m = rw add-one
+
+pub no-days : (l : Bool) (m : ℕ) → 12 < m → monthDays l m ≡ 0
+no-days l m h =
+    List·getD-eq-default (0 ∷ 31 ∷ cond l 29 28 ∷ 31 ∷ 30 ∷ 31 ∷ 30 ∷ 31 ∷ 31 ∷ 30 ∷ 31 ∷ 30 ∷ 31 ∷ []) 0 h
