@@ -2,15 +2,17 @@
 use mathlib.Core.Path.{_≡_, refl, sym, ap, _∙_}
 use mathlib.Core.Bool.{Bool, true, false, cond}
 use mathlib.Core.Option.{none, some}
-use Prim.Native.Nat.{ℕ, zero, suc, _+_, _-_, _%_, _≤_, _<_}
+use Prim.Native.Nat.{ℕ, zero, suc, _+_, _-_, _%_, _^_, _≤_, _<_}
 use native.Mathlib.Omega.{arith}
 use lib.Dec.{eqb}
 use lib.IntN.{ℤ, pos, _+ℤ_, _-ℤ_}
-use Rattle.number.proofs.Zed.{P, N, add-pn, sub-ℤ, eq-of}
+use mir.Syntax.{w64}
+use mir.Val.{SFits, toZ}
+use mir.Facts.{toZ-pos}
+use Rattle.number.proofs.Zed.{P, N, add-pn, sub-ℤ, eq-of, fits-of}
 use Rattle.text.proofs.Bools.{within-yes, within-under, within-over}
 use Rattle.calendar.specs.Calendar.{leap, daysOf, yearDays, yearStart, monthDays, before, isDate, dayNumber, civil}
 use Rattle.calendar.specs.Cycle.{starts}
-use Rattle.calendar.proofs.Months.{no-days}
 use Rattle.calendar.proofs.Years.{Counts, shift, in-cycle, epoch, first-day}
 
 -- ---- dates that the calendar does not have
@@ -24,3 +26,30 @@ too-late y m d h = rw (within-over 1 d (monthDays (leap y) m) h)
 pub no-month : (y : ℤ) (m d : ℕ) → monthDays (leap y) m ≡ 0 → none ≡ civil y m d
 no-month y m zero h = refl
 no-month y m (suc d) h = too-late y m (suc d) (omega arith)
+
+-- ---- n counts the year y
+
+module _ (y : ℤ) (n : ℕ) (h : Counts n y) where
+  pub is-leap : (days : ℕ) → days ≡ yearDays (pos (n % 400)) → eqb days 366 ≡ leap y
+  is-leap days e = rw (e, in-cycle n, shift y n h) (by (leap y))
+    where
+      by : (l : Bool) → eqb (daysOf l) 366 ≡ l
+      by true = refl
+      by false = refl
+
+  -- u is the day, counted as n counts years, and e the days so counted before 1970
+  pub number : (m d : ℕ) {u : ℕ} → u < 2 ^ 63 → u ≡ starts n + before (leap y) m + (d - 1) → 1 ≤ d → d ≤ monthDays (leap y) m → (e : ℕ) → starts 2147485970 ≡ e → some (pos u -ℤ pos e) ≡ civil y m d
+  number m d {u} fits p first last e q = rw (within-yes 1 d (monthDays (leap y) m) first last) (ap some same)
+    where
+      same : pos u -ℤ pos e ≡ dayNumber y m d
+      same =
+          eq-of (pos u -ℤ pos e) (dayNumber y m d)
+          (omega (
+            arith,
+            sub-ℤ (pos u) (pos e),
+            add-pn (yearStart y) (pos (before (leap y) m + (d - 1))),
+            first-day y n h,
+          ))
+
+pub difference : (u e : ℕ) → u < 2 ^ 63 → e < 2 ^ 63 → SFits w64 (pos u -ℤ pos e)
+difference u e p q = fits-of w64 (pos u -ℤ pos e) (omega (arith, sub-ℤ (pos u) (pos e)))

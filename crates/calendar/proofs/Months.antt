@@ -1,8 +1,9 @@
 -- The days of a year before each month: by the one formula for both kinds of year, and month by month. Assumes nothing.
-use mathlib.Core.Path.{_≡_}
+use mathlib.Core.Path.{_≡_, refl}
 use mathlib.Core.Bool.{Bool, true, false, cond}
 use mathlib.Core.List.{List, [], _∷_}
-use Prim.Native.Nat.{ℕ, _+_, _-_, _*_, _/_, _≤_, _<_}
+use Prim.Native.Nat.{ℕ, zero, suc, _+_, _-_, _*_, _/_, _≤_, _<_}
+use native.Mathlib.Omega.{arith}
 use native.Mathlib.Numerals.{add-one}
 use lib.Dec.{T, eqb, eqb→eq, leb, leb→le}
 use lib.ListN.{List·getD-eq-default}
@@ -27,6 +28,12 @@ pub next-month : (l : Bool) (m : ℕ) → before l (m + 1) ≡ before l m + mont
 unfolding before
 next-month l m = rw add-one
 
-pub no-days : (l : Bool) (m : ℕ) → 12 < m → monthDays l m ≡ 0
-no-days l m h =
+-- ---- months that no year has
+
+pub month-0 : (l : Bool) (m : ℕ) → m < 1 → monthDays l m ≡ 0
+month-0 l zero h = refl
+month-0 l (suc m) h = absurd (omega arith)
+
+pub past-12 : (l : Bool) (m : ℕ) → 12 < m → monthDays l m ≡ 0
+past-12 l m h =
     List·getD-eq-default (0 ∷ 31 ∷ cond l 29 28 ∷ 31 ∷ 30 ∷ 31 ∷ 30 ∷ 31 ∷ 31 ∷ 30 ∷ 31 ∷ 30 ∷ 31 ∷ []) 0 h

@@ -19,6 +19,9 @@ use Rattle.calendar.specs.Cycle.{starts}
 abbrev pub Counts : ℕ → ℤ → Type 0
 Counts n y = n + N y ≡ P y + 2147484000
 
+pub counts : (n : ℕ) (y : ℤ) → pos n ≡ y +ℤ pos 2147484000 → Counts n y
+counts n y h = omega (arith, add-pn y (pos 2147484000), ap P h, ap N h)
+
 -- ---- the leap rule goes by a year's place in the cycle
 
 same-place : (a b : ℕ) → a % 400 ≡ b % 400 → leap (pos a) ≡ leap (pos b)
