@@ -38,8 +38,9 @@ module _ (y : ℤ) (n : ℕ) (h : Counts n y) where
       by false = refl
 
   -- u is the day, counted as n counts years, and e the days so counted before 1970
-  pub number : (m d : ℕ) {u : ℕ} → u < 2 ^ 63 → u ≡ starts n + before (leap y) m + (d - 1) → 1 ≤ d → d ≤ monthDays (leap y) m → (e : ℕ) → starts 2147485970 ≡ e → some (pos u -ℤ pos e) ≡ civil y m d
-  number m d {u} fits p first last e q = rw (within-yes 1 d (monthDays (leap y) m) first last) (ap some same)
+  pub number : (m d : ℕ) {u : ℕ} → u < 2 ^ 63 → u ≡ starts n + before (leap y) m + (d - 1) → 1 ≤ d → d ≤ monthDays (leap y) m → (e : ℕ) → starts 2147485970 ≡ e → some (toZ w64 u -ℤ pos e) ≡ civil y m d
+  number m d {u} fits p first last e q =
+      rw (toZ-pos w64 fits, within-yes 1 d (monthDays (leap y) m) first last) (ap some same)
     where
       same : pos u -ℤ pos e ≡ dayNumber y m d
       same =
@@ -51,5 +52,6 @@ module _ (y : ℤ) (n : ℕ) (h : Counts n y) where
             first-day y n h,
           ))
 
-pub difference : (u e : ℕ) → u < 2 ^ 63 → e < 2 ^ 63 → SFits w64 (pos u -ℤ pos e)
-difference u e p q = fits-of w64 (pos u -ℤ pos e) (omega (arith, sub-ℤ (pos u) (pos e)))
+pub difference : {u : ℕ} → u < 2 ^ 63 → (e : ℕ) → e < 2 ^ 63 → SFits w64 (toZ w64 u -ℤ pos e)
+difference {u} fits e q =
+    rw (toZ-pos w64 fits) (fits-of w64 (pos u -ℤ pos e) (omega (arith, sub-ℤ (pos u) (pos e))))

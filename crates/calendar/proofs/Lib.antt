@@ -3,3 +3,5 @@ pub mod Years
 pub mod Starts
 pub mod Months
 pub mod Dates
+pub mod Days
+pub mod Readings

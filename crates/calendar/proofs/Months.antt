@@ -37,3 +37,11 @@ month-0 l (suc m) h = absurd (omega arith)
 pub past-12 : (l : Bool) (m : ℕ) → 12 < m → monthDays l m ≡ 0
 past-12 l m h =
     List·getD-eq-default (0 ∷ 31 ∷ cond l 29 28 ∷ 31 ∷ 30 ∷ 31 ∷ 30 ∷ 31 ∷ 31 ∷ 30 ∷ 31 ∷ 30 ∷ 31 ∷ []) 0 h
+
+pub some-days : (l : Bool) (m : ℕ) → 1 ≤ m → m ≤ 12 → 1 ≤ monthDays l m
+some-days l zero h k = absurd (omega arith)
+some-days l (suc m) h k = leb→le 1 (monthDays l (suc m)) (below (λ (i : ℕ). leb 1 (monthDays l (suc i))) 12 (all l) m k)
+  where
+    all : (l : Bool) → T (allBelow (λ (i : ℕ). leb 1 (monthDays l (suc i))) 12)
+    all true = tt
+    all false = tt

@@ -3,13 +3,13 @@
 use mathlib.Core.Path.{_≡_, sym, subst}
 use mathlib.Core.Bool.{Bool, true, cond, _&&_}
 use mathlib.Core.List.{List}
-use Prim.Native.Nat.{ℕ, _≤_, _<_}
+use Prim.Native.Nat.{ℕ, _<_}
 use native.Mathlib.Nat.{le-trans}
-use lib.Dec.{T, eqb, leb, leb→le}
+use lib.Dec.{T, eqb, leb}
 use lib.ListN.{getD, length}
 use borrow.Author.Tests.{leb-true}
 use Rattle.text.proofs.Bools.{and-left, and-right, by-test}
-use Rattle.text.proofs.Computed.{every, entry, below}
+use Rattle.text.proofs.Computed.{every, entry}
 use Rattle.calendar.specs.Cycle.{starts}
 
 -- the list has 401 entries, and each is the start of the year at its place
@@ -25,7 +25,3 @@ year-start xs k h = by-test (right xs) (λ e. rw e (yes e)) (λ e. rw e)
         let f : ℕ → ℕ → Bool = λ (i x : ℕ). eqb x (starts i) in
         entry starts xs k (subst T (sym (and-right (leb 401 (length xs)) (every f 0 xs) e)) tt)
         (le-trans h (leb-true 401 (length xs) (and-left (leb 401 (length xs)) (every f 0 xs) e)))
-
-pub starts-small : (k : ℕ) → k < 401 → starts k ≤ 146097
-unfolding starts
-starts-small k h = leb→le (starts k) 146097 (below (λ (i : ℕ). leb (starts i) 146097) 401 tt k h)

@@ -2,14 +2,14 @@
 -- cycles before year 0 and makes every year of 32 bits a natural number. Assumes nothing.
 use mathlib.Core.Path.{_≡_, refl, ap, _∙_}
 use mathlib.Core.Bool.{Bool, true, false, cond}
-use Prim.Native.Nat.{ℕ, zero, suc, _+_, _*_, _/_, _%_}
+use Prim.Native.Nat.{ℕ, zero, suc, _+_, _-_, _*_, _/_, _%_}
 use native.Mathlib.Omega.{arith}
 use native.Mathlib.Nat.{add-suc, add-zero, suc-add, zero-add, zero-mul}
 use native.Mathlib.Numerals.{add-one}
-use lib.Dec.{eqb}
+use lib.Dec.{eqb, leb}
 use lib.IntN.{ℤ, pos, negsuc, negℤ, natAbs, _+ℤ_, _-ℤ_}
 use lib.Signed.{leZ}
-use borrow.Author.Tests.{eq-eqb, ne-eqb, eqb-true, eqb-false}
+use borrow.Author.Tests.{eq-eqb, ne-eqb, eqb-true, eqb-false, leb-true, leb-false}
 use Rattle.number.proofs.Zed.{P, N, add-pn, sub-ℤ, P-neg, N-neg, le-yes, le-no, abs-up}
 use Rattle.text.proofs.Bools.{by-test}
 use Rattle.calendar.specs.Calendar.{leap, daysOf, yearDays, span, yearStart}
@@ -102,25 +102,41 @@ place-of-1970 = refl
 pub epoch : starts 2147485970 ≡ 784353144398
 epoch = by-cycle 2147485970 ∙ rw place-of-1970
 
-pub first-day : (y : ℤ) (n : ℕ) → Counts n y → P (yearStart y) + starts 2147485970 ≡ N (yearStart y) + starts n
-first-day y n h = by-test (leZ (pos 1970) y) later sooner
+-- 1 January of a year k years after 1970, or before it
+pub later : (y : ℤ) (k : ℕ) → P y ≡ N y + 1970 + k → yearStart y ≡ pos (span (pos 1970) k)
+later y k h = by-test (leZ (pos 1970) y) yes (λ e. absurd (omega (arith, le-no (pos 1970) y e)))
   where
-    up : ℕ
-    up = natAbs (y -ℤ pos 1970)
-
-    down : ℕ
-    down = natAbs (pos 1970 -ℤ y)
-
-    later : leZ (pos 1970) y ≡ true → P (yearStart y) + starts 2147485970 ≡ N (yearStart y) + starts n
-    later e =
-        let le = le-yes (pos 1970) y e in
-        let k : 2147485970 + up ≡ n =
+    yes : leZ (pos 1970) y ≡ true → yearStart y ≡ pos (span (pos 1970) k)
+    yes e =
+        let q : natAbs (y -ℤ pos 1970) ≡ k =
             omega (arith, sub-ℤ y (pos 1970), abs-up (y -ℤ pos 1970) (omega (arith, sub-ℤ y (pos 1970)))) in
-        rw e (omega (arith, spans (pos 1970) 2147485970 refl up, ap starts k))
+        rw (e, q)
 
-    sooner : leZ (pos 1970) y ≡ false → P (yearStart y) + starts 2147485970 ≡ N (yearStart y) + starts n
-    sooner e =
-        let gt = le-no (pos 1970) y e in
-        let k : n + down ≡ 2147485970 =
+pub sooner : (y : ℤ) (k : ℕ) → P y + k ≡ N y + 1970 → yearStart y ≡ negℤ (pos (span y k))
+unfolding span
+sooner y zero h = later y 0 (omega arith)
+sooner y (suc k) h = by-test (leZ (pos 1970) y) (λ e. absurd (omega (arith, le-yes (pos 1970) y e))) no
+  where
+    no : leZ (pos 1970) y ≡ false → yearStart y ≡ negℤ (pos (span y (suc k)))
+    no e =
+        let q : natAbs (pos 1970 -ℤ y) ≡ suc k =
             omega (arith, sub-ℤ (pos 1970) y, abs-up (pos 1970 -ℤ y) (omega (arith, sub-ℤ (pos 1970) y))) in
-        rw e (omega (arith, spans y n h down, ap starts k, P-neg (pos (span y down)), N-neg (pos (span y down))))
+        rw (e, q)
+
+pub first-day : (y : ℤ) (n : ℕ) → Counts n y → P (yearStart y) + starts 2147485970 ≡ N (yearStart y) + starts n
+first-day y n h = by-test (leb (N y + 1970) (P y)) after before
+  where
+    after : leb (N y + 1970) (P y) ≡ true → P (yearStart y) + starts 2147485970 ≡ N (yearStart y) + starts n
+    after e =
+        let le = leb-true (N y + 1970) (P y) e in
+        let k : ℕ = P y - (N y + 1970) in
+        let q : 2147485970 + k ≡ n = omega arith in
+        rw (later y k (omega arith)) (omega (arith, spans (pos 1970) 2147485970 refl k, ap starts q))
+
+    before : leb (N y + 1970) (P y) ≡ false → P (yearStart y) + starts 2147485970 ≡ N (yearStart y) + starts n
+    before e =
+        let gt = leb-false (N y + 1970) (P y) e in
+        let k : ℕ = N y + 1970 - P y in
+        let q : n + k ≡ 2147485970 = omega arith in
+        rw (sooner y k (omega arith))
+        (omega (arith, spans y n h k, ap starts q, P-neg (pos (span y k)), N-neg (pos (span y k))))

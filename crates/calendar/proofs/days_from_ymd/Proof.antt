@@ -97,14 +97,14 @@ cast-t20 : tie.Need-cast-t20
 cast-t20 c = search needs
 
 sub-t21 : tie.Need-sub-t21
-sub-t21 c = rw (toZ-pos w64 (cast-t20 c .sfits)) (search (difference, cast-t20 c .sfits, needs))
+sub-t21 c = search (difference (cast-t20 c .sfits), needs)
 
 returns-5 : tie.Need-returns-5
 returns-5 c =
     let k = c .before .before .before in
     let n = year k .before .counted .result in
     let v = entry k .args in
-    rw (toZ-ofZ (sub-t21 c), toZ-pos w64 (cast-t20 c .sfits))
+    rw (toZ-ofZ (sub-t21 c))
     (search (
       number (v .year) n (in-count (year k .before)) (v .month) (v .day-of-month) (cast-t20 c .sfits)
       (omega (arith, by-cycle n, year k .year-of-cycle .ensures .0, month-start k))
