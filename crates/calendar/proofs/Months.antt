@@ -1,7 +1,6 @@
 -- The days of a year before each month: by the one formula for both kinds of year, and month by month. Assumes nothing.
 use mathlib.Core.Path.{_≡_, refl}
 use mathlib.Core.Bool.{Bool, true, false, cond}
-use mathlib.Core.List.{List, [], _∷_}
 use Prim.Native.Nat.{ℕ, zero, suc, _+_, _-_, _*_, _/_, _≤_, _<_}
 use native.Mathlib.Omega.{arith}
 use native.Mathlib.Numerals.{add-one}
@@ -35,8 +34,7 @@ month-0 l zero h = refl
 month-0 l (suc m) h = absurd (omega arith)
 
 pub past-12 : (l : Bool) (m : ℕ) → 12 < m → monthDays l m ≡ 0
-past-12 l m h =
-    List·getD-eq-default (0 ∷ 31 ∷ cond l 29 28 ∷ 31 ∷ 30 ∷ 31 ∷ 30 ∷ 31 ∷ 31 ∷ 30 ∷ 31 ∷ 30 ∷ 31 ∷ []) 0 h
+past-12 l m h = rw List·getD-eq-default
 
 pub some-days : (l : Bool) (m : ℕ) → 1 ≤ m → m ≤ 12 → 1 ≤ monthDays l m
 some-days l zero h k = absurd (omega arith)

@@ -25,7 +25,7 @@ counts n y h = omega (arith, add-pn y (pos 2147484000), ap P h, ap N h)
 -- ---- the leap rule goes by a year's place in the cycle
 
 same-place : (a b : ℕ) → a % 400 ≡ b % 400 → leap (pos a) ≡ leap (pos b)
-same-place a b h = rw (d4, d100, h)
+same-place a b h = simp (d4, d100, h)
   where
     d4 : a % 4 ≡ b % 4
     d4 = omega arith
@@ -44,7 +44,7 @@ same-test x y f g =
 pub shift : (y : ℤ) (n : ℕ) → Counts n y → leap (pos n) ≡ leap y
 shift (pos a) n h = same-place n a (omega arith)
 shift (negsuc a) n h =
-    rw (
+    simp (
       same-test (n % 4) (suc a % 4) (λ q. omega arith) (λ q. omega arith),
       same-test (n % 100) (suc a % 100) (λ q. omega arith) (λ q. omega arith),
       same-test (n % 400) (suc a % 400) (λ q. omega arith) (λ q. omega arith),

@@ -29,14 +29,14 @@ unfolding starts
 sub-t9 c =
     let h : c .args .y < 401 = omega arith in
     let k : c .args .y + 1 < 401 = omega arith in
-    rw (year-start _ (c .args .y) h, year-start _ (c .args .y + 1) k) (omega (arith, year-after (c .args .y)))
+    rw (year-start _ (c .args .y), year-start) (omega (arith, year-after (c .args .y)))
 
 returns : tie.Need-returns
 unfolding starts
 returns c =
     let h : c .args .y < 401 = omega arith in
     let k : c .args .y + 1 < 401 = omega arith in
-    (rw (year-start _ (c .args .y) h), rw (year-start _ (c .args .y) h, year-start _ (c .args .y + 1) k) (omega (arith, year-after (c .args .y))))
+    (rw year-start, rw (year-start _ (c .args .y), year-start) (omega (arith, year-after (c .args .y))))
 
 
 pub year-of-cycle-spec : {M : Type 1} → statement M
