@@ -23,11 +23,20 @@ formula l m h =
     eqb→eq ((367 * m - 362) / 12) (before l m + over l m)
     (below (λ (i : ℕ). eqb ((367 * i - 362) / 12) (before l i + over l i)) 14 (computed l) m h)
 
-pub next-month : (l : Bool) (m : ℕ) → before l (m + 1) ≡ before l m + monthDays l m
+pub next-before : (l : Bool) (m : ℕ) → before l (m + 1) ≡ before l m + monthDays l m
 unfolding before
-next-month l m = rw add-one
+next-before l m = rw add-one
 
--- ---- months that no year has
+-- ---- the months that a year has, and those that no year has
+
+pub has-days : (l : Bool) (m : ℕ) → 1 ≤ m → m ≤ 12 → 1 ≤ monthDays l m
+has-days l zero h k = absurd (omega arith)
+has-days l (suc m) h k =
+    leb→le 1 (monthDays l (suc m)) (below (λ (i : ℕ). leb 1 (monthDays l (suc i))) 12 (each l) m k)
+  where
+    each : (l : Bool) → T (allBelow (λ (i : ℕ). leb 1 (monthDays l (suc i))) 12)
+    each true = tt
+    each false = tt
 
 pub month-0 : (l : Bool) (m : ℕ) → m < 1 → monthDays l m ≡ 0
 month-0 l zero h = refl
@@ -35,11 +44,3 @@ month-0 l (suc m) h = absurd (omega arith)
 
 pub past-12 : (l : Bool) (m : ℕ) → 12 < m → monthDays l m ≡ 0
 past-12 l m h = rw List·getD-eq-default
-
-pub some-days : (l : Bool) (m : ℕ) → 1 ≤ m → m ≤ 12 → 1 ≤ monthDays l m
-some-days l zero h k = absurd (omega arith)
-some-days l (suc m) h k = leb→le 1 (monthDays l (suc m)) (below (λ (i : ℕ). leb 1 (monthDays l (suc i))) 12 (all l) m k)
-  where
-    all : (l : Bool) → T (allBelow (λ (i : ℕ). leb 1 (monthDays l (suc i))) 12)
-    all true = tt
-    all false = tt

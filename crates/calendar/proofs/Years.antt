@@ -1,7 +1,6 @@
 -- The years of the calendar, by the cycle of 400 years. A year y is counted as n = y + 2147484000, which starts a whole number of
 -- cycles before year 0 and makes every year of 32 bits a natural number. Assumes nothing.
 use mathlib.Core.Path.{_≡_, refl, ap, _∙_}
-use mathlib.Core.Bool.{Bool, true, false, cond}
 use Prim.Native.Nat.{ℕ, zero, suc, _+_, _-_, _*_, _/_, _%_}
 use native.Mathlib.Omega.{arith}
 use native.Mathlib.Nat.{add-suc, add-zero, suc-add, zero-add, zero-mul}
@@ -39,7 +38,9 @@ in-cycle n = same-place (n % 400) n (omega arith)
 -- two remainders that are zero together
 same-test : (x y : ℕ) → (x ≡ 0 → y ≡ 0) → (y ≡ 0 → x ≡ 0) → eqb x 0 ≡ eqb y 0
 same-test x y f g =
-    by-test (eqb y 0) (λ e. eq-eqb x 0 (g (eqb-true y 0 e)) ∙ rw e) (λ e. ne-eqb x 0 (λ q. eqb-false y 0 e (f q)) ∙ rw e)
+    by-test (eqb y 0)
+    (λ e. rw e (eq-eqb x 0 (g (eqb-true y 0 e))))
+    (λ e. rw e (ne-eqb x 0 (λ q. eqb-false y 0 e (f q))))
 
 pub shift : (y : ℤ) (n : ℕ) → Counts n y → leap (pos n) ≡ leap y
 shift (pos a) n h = same-place n a (omega arith)
@@ -83,7 +84,7 @@ by-cycle n =
 
 -- ---- the first day of a year: 1970 is counted as 2147485970, and 784353144398 days lie before it
 
-pub spans : (y : ℤ) (n : ℕ) → Counts n y → (k : ℕ) → span y k + starts n ≡ starts (n + k)
+spans : (y : ℤ) (n : ℕ) → Counts n y → (k : ℕ) → span y k + starts n ≡ starts (n + k)
 unfolding span
 spans y n h zero = rw (add-zero n) (omega arith)
 spans y n h (suc k) =
@@ -102,41 +103,40 @@ place-of-1970 = refl
 pub epoch : starts 2147485970 ≡ 784353144398
 epoch = by-cycle 2147485970 ∙ rw place-of-1970
 
--- 1 January of a year k years after 1970, or before it
+-- a year is k years after 1970, or some years before it
+pub by-1970 {ℓ} :
+    {A : Type ℓ} (y : ℤ) → ((k : ℕ) → P y ≡ N y + 1970 + k → A) → ((k : ℕ) → P y + suc k ≡ N y + 1970 → A) → A
+by-1970 y f g =
+    by-test (leb (N y + 1970) (P y))
+    (λ e. f (P y - (N y + 1970)) (omega (arith, leb-true (N y + 1970) (P y) e)))
+    (λ e. g (N y + 1970 - suc (P y)) (omega (arith, leb-false (N y + 1970) (P y) e)))
+
 pub later : (y : ℤ) (k : ℕ) → P y ≡ N y + 1970 + k → yearStart y ≡ pos (span (pos 1970) k)
-later y k h = by-test (leZ (pos 1970) y) yes (λ e. absurd (omega (arith, le-no (pos 1970) y e)))
+later y k h =
+    by-test (leZ (pos 1970) y) (λ e. rw (e, years)) (λ e. absurd (omega (arith, le-no (pos 1970) y e)))
   where
-    yes : leZ (pos 1970) y ≡ true → yearStart y ≡ pos (span (pos 1970) k)
-    yes e =
-        let q : natAbs (y -ℤ pos 1970) ≡ k =
-            omega (arith, sub-ℤ y (pos 1970), abs-up (y -ℤ pos 1970) (omega (arith, sub-ℤ y (pos 1970)))) in
-        rw (e, q)
+    years : natAbs (y -ℤ pos 1970) ≡ k
+    years = omega (arith, sub-ℤ y (pos 1970), abs-up (y -ℤ pos 1970) (omega (arith, sub-ℤ y (pos 1970))))
 
 pub sooner : (y : ℤ) (k : ℕ) → P y + k ≡ N y + 1970 → yearStart y ≡ negℤ (pos (span y k))
 unfolding span
 sooner y zero h = later y 0 (omega arith)
-sooner y (suc k) h = by-test (leZ (pos 1970) y) (λ e. absurd (omega (arith, le-yes (pos 1970) y e))) no
+sooner y (suc k) h =
+    by-test (leZ (pos 1970) y) (λ e. absurd (omega (arith, le-yes (pos 1970) y e))) (λ e. rw (e, years))
   where
-    no : leZ (pos 1970) y ≡ false → yearStart y ≡ negℤ (pos (span y (suc k)))
-    no e =
-        let q : natAbs (pos 1970 -ℤ y) ≡ suc k =
-            omega (arith, sub-ℤ (pos 1970) y, abs-up (pos 1970 -ℤ y) (omega (arith, sub-ℤ (pos 1970) y))) in
-        rw (e, q)
+    years : natAbs (pos 1970 -ℤ y) ≡ suc k
+    years = omega (arith, sub-ℤ (pos 1970) y, abs-up (pos 1970 -ℤ y) (omega (arith, sub-ℤ (pos 1970) y)))
 
 pub first-day : (y : ℤ) (n : ℕ) → Counts n y → P (yearStart y) + starts 2147485970 ≡ N (yearStart y) + starts n
-first-day y n h = by-test (leb (N y + 1970) (P y)) after before
+first-day y n h = by-1970 y after before
   where
-    after : leb (N y + 1970) (P y) ≡ true → P (yearStart y) + starts 2147485970 ≡ N (yearStart y) + starts n
-    after e =
-        let le = leb-true (N y + 1970) (P y) e in
-        let k : ℕ = P y - (N y + 1970) in
+    after : (k : ℕ) → P y ≡ N y + 1970 + k → P (yearStart y) + starts 2147485970 ≡ N (yearStart y) + starts n
+    after k e =
         let q : 2147485970 + k ≡ n = omega arith in
-        rw (later y k (omega arith)) (omega (arith, spans (pos 1970) 2147485970 refl k, ap starts q))
+        rw (later y k e) (omega (arith, spans (pos 1970) 2147485970 refl k, ap starts q))
 
-    before : leb (N y + 1970) (P y) ≡ false → P (yearStart y) + starts 2147485970 ≡ N (yearStart y) + starts n
-    before e =
-        let gt = leb-false (N y + 1970) (P y) e in
-        let k : ℕ = N y + 1970 - P y in
-        let q : n + k ≡ 2147485970 = omega arith in
-        rw (sooner y k (omega arith))
-        (omega (arith, spans y n h k, ap starts q, P-neg (pos (span y k)), N-neg (pos (span y k))))
+    before : (k : ℕ) → P y + suc k ≡ N y + 1970 → P (yearStart y) + starts 2147485970 ≡ N (yearStart y) + starts n
+    before k e =
+        let q : n + suc k ≡ 2147485970 = omega arith in
+        let z : ℤ = pos (span y (suc k)) in
+        rw (sooner y (suc k) e) (omega (arith, spans y n h (suc k), ap starts q, P-neg z, N-neg z))

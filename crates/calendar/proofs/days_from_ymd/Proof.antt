@@ -1,16 +1,13 @@
 -- `calendar::days_from_ymd` meets its contract, by the laws of years, months and dates. Assumes nothing.
 use borrow.Author.Needs.{needs}
-use mathlib.Core.Path.{_≡_, refl}
+use mathlib.Core.Path.{_≡_}
 use Prim.Native.Nat.{_+_}
 use native.Mathlib.Omega.{arith}
 use lib.Dec.{eqb}
-use lib.IntN.{pos, _-ℤ_}
-use mir.Syntax.{w64}
-use mir.Facts.{toZ-ofZ, toZ-pos}
-use Rattle.number.proofs.Zed.{sub-ℤ, fits-of}
+use mir.Facts.{toZ-ofZ}
 use Rattle.calendar.specs.Calendar.{leap, monthDays, before}
 use Rattle.calendar.proofs.Years.{Counts, counts, by-cycle, epoch}
-use Rattle.calendar.proofs.Months.{next-month, month-0, past-12}
+use Rattle.calendar.proofs.Months.{next-before, month-0, past-12}
 use Rattle.calendar.proofs.Dates.{too-early, too-late, no-month, is-leap, number, difference}
 use Rattle.calendar.proofs.days_from_ymd.Statement.{statement}
 use Rattle.calendar.proofs.days_from_ymd.Tie as tie
@@ -21,7 +18,7 @@ in-count c =
     let s = c .before .before .before in
     counts _ (s .args .year) (rw (toZ-ofZ (s .fits .year)) at (c .counted .ensures .0))
 
--- where all is called, the place after the table is read, and the entry
+-- from the place where all calls have returned, back to where the table was read, and to the entry
 abbrev year : tie.After-days-before2 → tie.After-year-of-cycle
 year c = c .before .before .before
 
@@ -35,16 +32,21 @@ module _ (c : tie.After-days-before2) where
   month-start : c .before .days-before .result ≡ before (leap (entry c .args .year)) (entry c .args .month)
   month-start = rw leap-year at (c .before .days-before .ensures)
 
-  month : c .days-before2 .result ≡ c .before .days-before .result + monthDays (leap (entry c .args .year)) (entry c .args .month)
+  month :
+      c .days-before2 .result ≡ c .before .days-before .result + monthDays (leap (entry c .args .year)) (entry c .args .month)
   month =
       let v = entry c .args in
-      omega (arith, month-start, rw leap-year at (c .days-before2 .ensures), next-month (leap (v .year)) (v .month))
+      omega (arith, month-start, rw leap-year at (c .days-before2 .ensures), next-before (leap (v .year)) (v .month))
 
 returns : tie.Need-returns
-returns c = let v = c .before .args in no-month (v .year) (v .month) (v .day-of-month) (past-12 (leap (v .year)) (v .month) (c .if1 .taken))
+returns c =
+    let v = c .before .args in
+    no-month (v .year) (v .month) (v .day-of-month) (past-12 (leap (v .year)) (v .month) (c .if1 .taken))
 
 returns-2 : tie.Need-returns-2
-returns-2 c = let v = c .before .before .args in no-month (v .year) (v .month) (v .day-of-month) (month-0 (leap (v .year)) (v .month) (c .if2 .taken))
+returns-2 c =
+    let v = c .before .before .args in
+    no-month (v .year) (v .month) (v .day-of-month) (month-0 (leap (v .year)) (v .month) (c .if2 .taken))
 
 counted-requires : tie.Need-counted-requires
 counted-requires c κs = search needs
@@ -107,9 +109,9 @@ returns-5 c =
     rw (toZ-ofZ (sub-t21 c))
     (search (
       number (v .year) n (in-count (year k .before)) (v .month) (v .day-of-month) (cast-t20 c .sfits)
-      (omega (arith, by-cycle n, year k .year-of-cycle .ensures .0, month-start k))
-      (c .before .before .if3 .left)
-      (omega (arith, month k, c .before .if4 .left)),
+          (omega (arith, by-cycle n, year k .year-of-cycle .ensures .0, month-start k))
+          (c .before .before .if3 .left)
+          (omega (arith, month k, c .before .if4 .left)),
       epoch,
     ))
 

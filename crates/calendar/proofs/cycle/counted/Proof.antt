@@ -1,8 +1,10 @@
 -- `calendar::cycle::counted` meets its contract: a year of 32 bits and 2147484000 make a natural number. Assumes nothing.
+use mathlib.Core.Path.{_≡_}
 use Prim.Native.Nat.{_≤_, _<_}
 use native.Mathlib.Omega.{arith}
+use lib.Dec.{T}
 use lib.IntN.{ℤ, pos, natAbs, _+ℤ_}
-use lib.Signed.{pos-natAbs}
+use lib.Signed.{nonNeg, pos-natAbs}
 use mir.Syntax.{w32, w64}
 use mir.Val.{SFits}
 use mir.Facts.{sfits-widen, toZ-ofZ}
@@ -20,6 +22,12 @@ module _ (y : ℤ) (f : SFits w32 y) where
   up : N (y +ℤ pos 2147484000) ≤ P (y +ℤ pos 2147484000)
   up = omega (arith, add-pn y (pos 2147484000), of-fits w32 y f)
 
+  natural : T (nonNeg (y +ℤ pos 2147484000))
+  natural = nonneg-of (y +ℤ pos 2147484000) up
+
+  same : pos (natAbs (y +ℤ pos 2147484000)) ≡ y +ℤ pos 2147484000
+  same = pos-natAbs (y +ℤ pos 2147484000) natural
+
   small : natAbs (y +ℤ pos 2147484000) < 4294967648
   small = omega (arith, abs-up (y +ℤ pos 2147484000) up, add-pn y (pos 2147484000), of-fits w32 y f)
 
@@ -32,14 +40,10 @@ add-result c = let f = c .fits .year in rw (toZ-ofZ f, toZ-ofZ (wide _ f)) (sum 
 cast-result-2 : tie.Need-cast-result-2
 cast-result-2 c =
     let f = c .fits .year in
-    rw (toZ-ofZ f, toZ-ofZ (wide _ f), toZ-ofZ (sum _ f))
-    (nonneg-of (c .args .year +ℤ pos 2147484000) (up _ f), record { fits = omega (arith, small _ f) })
+    rw (toZ-ofZ f, toZ-ofZ (wide _ f), toZ-ofZ (sum _ f)) (natural _ f, record { fits = omega (arith, small _ f) })
 
 returns : tie.Need-returns
-returns c =
-    let f = c .fits .year in
-    rw (toZ-ofZ f, toZ-ofZ (wide _ f), toZ-ofZ (sum _ f))
-    (pos-natAbs (c .args .year +ℤ pos 2147484000) (nonneg-of (c .args .year +ℤ pos 2147484000) (up _ f)), small _ f)
+returns c = let f = c .fits .year in rw (toZ-ofZ f, toZ-ofZ (wide _ f), toZ-ofZ (sum _ f)) (same _ f, small _ f)
 
 pub counted-spec : {M : Type 1} → statement M
 counted-spec = tie.close (tie.spec cast-result add-result cast-result-2 returns)

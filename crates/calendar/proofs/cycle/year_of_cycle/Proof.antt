@@ -1,6 +1,5 @@
 -- `calendar::cycle::year_of_cycle` meets its contract, since the table is right. Assumes nothing.
 use borrow.Author.Needs.{needs}
-use mathlib.Core.Path.{refl}
 use native.Mathlib.Omega.{arith}
 use Prim.Native.Nat.{_+_, _<_}
 use Rattle.calendar.specs.Cycle.{starts}
@@ -37,7 +36,6 @@ returns c =
     let h : c .args .y < 401 = omega arith in
     let k : c .args .y + 1 < 401 = omega arith in
     (rw year-start, rw (year-start _ (c .args .y), year-start) (omega (arith, year-after (c .args .y))))
-
 
 pub year-of-cycle-spec : {M : Type 1} → statement M
 year-of-cycle-spec =
