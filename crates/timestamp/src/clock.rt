@@ -4,7 +4,7 @@ use crate::Time;
 ghost use mathlib.Core.Path.{_≡_};
 ghost use mathlib.Core.Bool.{cond, _&&_};
 ghost use mathlib.Core.Option.{none, some};
-ghost use Prim.Native.Nat.{_+_, _*_};
+ghost use Prim.Native.Nat.{_+_, _*_, _<_};
 ghost use lib.Dec.{ltb};
 ghost use lib.ListN.{take};
 ghost use Rattle.text.specs.Digits.{run};
@@ -12,7 +12,7 @@ ghost use Rattle.timestamp.specs.Clock.{inRange, nanosOf, timeIs};
 
 // The digits that a text begins with, at most n of them, as nanoseconds: nine count.
 pub fn parse_nanos(digits: &[u8], n: usize) -> u32
-    ensures { λ r. ⌜ r ≡ nanosOf (take n (take (run (now (digits .entry))) (now (digits .entry)))) ⌝ }
+    ensures { λ r. ⌜ (r ≡ nanosOf (take n (take (run (now (digits .entry))) (now (digits .entry))))) × (r < 1000000000) ⌝ }
 {
     let mut nanos: u32 = 0;
     let mut unit: u32 = 100_000_000;

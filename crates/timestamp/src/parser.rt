@@ -4,6 +4,7 @@ use crate::TimeAndEnd;
 use crate::clock;
 use calendar::Day;
 use text::digits::digit;
+use text::white::byte_at;
 ghost use mathlib.Core.Path.{_≡_};
 ghost use mathlib.Core.Bool.{cond};
 ghost use Prim.Native.Nat.{_+_, _≤_, _<_};
@@ -50,11 +51,8 @@ pub fn date(s: &[u8]) -> Day
     if !shape {
         return Day::None;
     }
-    calendar::days_from_ymd(
-        century as i32 * 100 + year as i32,
-        month as u32,
-        day_of_month as u32,
-    )
+    let whole_year = century as u32 * 100 + year as u32;
+    calendar::days_from_ymd(whole_year as i32, month as u32, day_of_month as u32)
 }
 
 // Parses a time of any of the forms, from byte 11 on
@@ -85,13 +83,9 @@ pub fn time(s: &[u8]) -> TimeAndEnd
 
 // What follows the seconds, from byte 19 on: a point and digits, of which all are passed over, or no fraction.
 fn after_seconds(s: &[u8], hour: u8, minute: u8, second: u8) -> TimeAndEnd
-    requires { ⌜ 19 ≤ length (now s) ⌝ }
     ensures { λ r. ⌜ endsAt (now (s .entry)) r ≡ afterSeconds hour minute second (drop 19 (now (s .entry))) ⌝ }
 {
-    if s.len() == 19 {
-        return at(s, hour, minute, second, 0, 19);
-    }
-    if digit(s[19]) != POINT {
+    if digit(byte_at(s, 19)) != POINT {
         return at(s, hour, minute, second, 0, 19);
     }
     let end = text::digits::run_end(s, 20);
@@ -110,15 +104,12 @@ fn basic(s: &[u8]) -> TimeAndEnd
     let hour = two(s, 11);
     let minute = two(s, 13);
     let second = two(s, 15);
-    let end = text::digits::run_end(s, 17);
-    let shape = (hour < 100) & ((minute < 100) & ((second < 100) & (end == 17)));
+    let next = digit(byte_at(s, 17));
+    let after = digit(byte_at(s, 18));
+    let shape = (hour < 100)
+        & ((minute < 100) & ((second < 100) & ((10 <= next) & (10 <= after))));
     if !shape {
         return TimeAndEnd::None;
-    }
-    if 18 < s.len() {
-        if digit(s[18]) < 10 {
-            return TimeAndEnd::None;
-        }
     }
     at(s, hour, minute, second, 0, 17)
 }

@@ -1,0 +1,45 @@
+-- A date from the values that the code has of its bytes. Assumes nothing.
+use mathlib.Core.Path.{_≡_, refl, sym, _∙_}
+use mathlib.Core.Bool.{true, false, _&&_}
+use mathlib.Core.List.{List}
+use mathlib.Core.Option.{none}
+use Prim.Native.Nat.{ℕ, _+_, _*_, _<_}
+use lib.Dec.{ltb, eqb, lit<}
+use lib.ListN.{getD}
+use lib.IntN.{pos}
+use Rattle.calendar.specs.Calendar.{civil}
+use Rattle.text.specs.Digits.{digitOf}
+use Rattle.timestamp.specs.Answer.{twoDigits, isDate, dayOf}
+use Rattle.timestamp.proofs.TwoDigits.{twoOr, two-test, two-value, sign-test, six}
+
+-- century, year of it, month and day are the numbers at their places, and h and k the bytes between
+pub record DateRead (s : List ℕ) (c y h m k d : ℕ) : Type 0 where
+  pub century : c ≡ twoOr s 0
+  pub year : y ≡ twoOr s 2
+  pub first : h ≡ digitOf (getD s 4 0)
+  pub month : m ≡ twoOr s 5
+  pub second : k ≡ digitOf (getD s 7 0)
+  pub day : d ≡ twoOr s 8
+
+module _ {s : List ℕ} {c y h m k d : ℕ} (fits : (i : ℕ) → getD s i 0 < 256) (r : DateRead s c y h m k d) where
+  shape : ltb c 100 && (ltb y 100 && (eqb h 253 && (ltb m 100 && (eqb k 253 && ltb d 100)))) ≡ isDate s
+  shape =
+      rw (
+        two-test 0 s 0 (r .century),
+        two-test 0 s 2 (r .year),
+        sign-test 0 s 4 253 0x2D (fits 4) (lit< tt) refl (r .first),
+        two-test 0 s 5 (r .month),
+        sign-test 0 s 7 253 0x2D (fits 7) (lit< tt) refl (r .second),
+        two-test 0 s 8 (r .day),
+      )
+
+  pub no-date : ltb c 100 && (ltb y 100 && (eqb h 253 && (ltb m 100 && (eqb k 253 && ltb d 100)))) ≡ false → none ≡ dayOf s
+  unfolding dayOf
+  no-date e = rw (sym shape ∙ e)
+
+  pub a-date : ltb c 100 && (ltb y 100 && (eqb h 253 && (ltb m 100 && (eqb k 253 && ltb d 100)))) ≡ true → civil (pos (c * 100 + y)) m d ≡ dayOf s
+  unfolding dayOf
+  a-date e =
+      let t : isDate s ≡ true = sym shape ∙ e in
+      let x = six (twoDigits s 0) (twoDigits s 2) (eqb (getD s 4 0) 0x2D) (twoDigits s 5) (eqb (getD s 7 0) 0x2D) (twoDigits s 8) t in
+      rw (t, two-value 0 s 0 (r .century) (x .0), two-value 0 s 2 (r .year) (x .1), two-value 0 s 5 (r .month) (x .3), two-value 0 s 8 (r .day) (x .5))

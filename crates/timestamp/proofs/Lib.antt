@@ -1,0 +1,6 @@
+-- Laws that belong to no one function.
+pub mod TwoDigits
+pub mod Dates
+pub mod Times
+pub mod Nanos
+pub mod Instants
