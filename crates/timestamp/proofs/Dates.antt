@@ -1,12 +1,13 @@
 -- A date from the values that the code has of its bytes. Assumes nothing.
 use mathlib.Core.Path.{_≡_, refl, sym, _∙_}
-use mathlib.Core.Bool.{true, false, _&&_}
+use mathlib.Core.Bool.{Bool, true, false, not, _&&_}
 use mathlib.Core.List.{List}
 use mathlib.Core.Option.{none}
 use Prim.Native.Nat.{ℕ, _+_, _*_, _<_}
 use lib.Dec.{ltb, eqb, lit<}
 use lib.ListN.{getD}
-use lib.IntN.{pos}
+use lib.IntN.{ℤ, pos}
+use borrow.Author.Tests.{not-true, not-false}
 use Rattle.calendar.specs.Calendar.{civil}
 use Rattle.text.specs.Digits.{digitOf}
 use Rattle.timestamp.specs.Answer.{twoDigits, isDate, dayOf}
@@ -21,8 +22,12 @@ pub record DateRead (s : List ℕ) (c y h m k d : ℕ) : Type 0 where
   pub second : k ≡ digitOf (getD s 7 0)
   pub day : d ≡ twoOr s 8
 
+-- the code's test of the shape, in which a hyphen is 253
+abbrev pub dateTest : ℕ → ℕ → ℕ → ℕ → ℕ → ℕ → Bool
+dateTest c y h m k d = ltb c 100 && (ltb y 100 && (eqb h 253 && (ltb m 100 && (eqb k 253 && ltb d 100))))
+
 module _ {s : List ℕ} {c y h m k d : ℕ} (fits : (i : ℕ) → getD s i 0 < 256) (r : DateRead s c y h m k d) where
-  shape : ltb c 100 && (ltb y 100 && (eqb h 253 && (ltb m 100 && (eqb k 253 && ltb d 100)))) ≡ isDate s
+  shape : dateTest c y h m k d ≡ isDate s
   shape =
       rw (
         two-test 0 s 0 (r .century),
@@ -33,13 +38,13 @@ module _ {s : List ℕ} {c y h m k d : ℕ} (fits : (i : ℕ) → getD s i 0 < 2
         two-test 0 s 8 (r .day),
       )
 
-  pub no-date : ltb c 100 && (ltb y 100 && (eqb h 253 && (ltb m 100 && (eqb k 253 && ltb d 100)))) ≡ false → none ≡ dayOf s
+  pub no-date : not (dateTest c y h m k d) ≡ true → none ≡ dayOf s
   unfolding dayOf
-  no-date e = rw (sym shape ∙ e)
+  no-date e = rw (sym shape ∙ not-true (dateTest c y h m k d) e)
 
-  pub a-date : ltb c 100 && (ltb y 100 && (eqb h 253 && (ltb m 100 && (eqb k 253 && ltb d 100)))) ≡ true → civil (pos (c * 100 + y)) m d ≡ dayOf s
+  pub a-date : {z : ℤ} → z ≡ pos (c * 100 + y) → not (dateTest c y h m k d) ≡ false → civil z m d ≡ dayOf s
   unfolding dayOf
-  a-date e =
-      let t : isDate s ≡ true = sym shape ∙ e in
+  a-date q e =
+      let t : isDate s ≡ true = sym shape ∙ not-false (dateTest c y h m k d) e in
       let x = six (twoDigits s 0) (twoDigits s 2) (eqb (getD s 4 0) 0x2D) (twoDigits s 5) (eqb (getD s 7 0) 0x2D) (twoDigits s 8) t in
-      rw (t, two-value 0 s 0 (r .century) (x .0), two-value 0 s 2 (r .year) (x .1), two-value 0 s 5 (r .month) (x .3), two-value 0 s 8 (r .day) (x .5))
+      rw (q, t, two-value 0 s 0 (r .century) (x .0), two-value 0 s 2 (r .year) (x .1), two-value 0 s 5 (r .month) (x .3), two-value 0 s 8 (r .day) (x .5))

@@ -4,3 +4,5 @@ pub mod Dates
 pub mod Times
 pub mod Nanos
 pub mod Instants
+pub mod Fractions
+pub mod Endings

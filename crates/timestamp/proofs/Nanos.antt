@@ -16,6 +16,9 @@ use Rattle.timestamp.specs.Clock.{nanosFrom, nanosOf}
 abbrev pub led : ℕ → ℕ → List ℕ → ℕ
 led u n t = nanosFrom u (take n (take (run t) t))
 
+pub at-start : (u n : ℕ) (t : List ℕ) → 0 + led u (n - 0) (drop 0 t) ≡ led u n t
+at-start u n t = let z : n - 0 ≡ n = omega arith in rw z (omega arith)
+
 none-left : (u n : ℕ) (t : List ℕ) → run t ≡ 0 → led u n t ≡ 0
 unfolding nanosFrom
 none-left u n t e = rw (e, take-nil n)
@@ -37,9 +40,9 @@ module _ (u : ℕ) (s : List ℕ) (i d : ℕ) (h : i < length s) (fits : getD s 
       let z : n - i ≡ suc (n - (i + 1)) = omega arith in
       rw (drop-cons s i 0 h, is-digit (getD s i 0) d fits e g, z, add-one, is-worth (getD s i 0) d fits e g)
 
-  -- what a digit adds
-  pub short-of : d < 10 → d * u ≤ 9 * u
-  short-of g = mul-le-mul-right u (le-of-suc-le-suc g)
+-- what a digit adds
+pub short-of : (u d : ℕ) → d < 10 → d * u ≤ 9 * u
+short-of u d h = mul-le-mul-right u (le-of-suc-le-suc h)
 
 -- ---- a run of digits is its own run
 

@@ -1,6 +1,6 @@
 -- A time, from byte 11 on, from the values that the code has of its bytes: with colons, without, and cut short. Assumes nothing.
 use mathlib.Core.Path.{_≡_, refl, sym, ap, _∙_}
-use mathlib.Core.Bool.{true, false, cond, not, _&&_}
+use mathlib.Core.Bool.{Bool, true, false, cond, not, _&&_}
 use mathlib.Core.List.{List, []}
 use mathlib.Core.Option.{none}
 use Prim.Native.Nat.{ℕ, _+_, _*_, _<_}
@@ -8,6 +8,7 @@ use native.Mathlib.Omega.{arith}
 use lib.Dec.{ltb, leb, eqb, lit<}
 use lib.ListN.{getD, drop, length, length-drop}
 use lib.Seq.{drop-drop}
+use borrow.Author.Tests.{not-true, not-false}
 use Rattle.text.specs.Digits.{isDigit, digitOf}
 use Rattle.text.proofs.Bools.{and-false}
 use Rattle.timestamp.specs.Clock.{nanosFrom}
@@ -23,8 +24,12 @@ pub record ColonsRead (s : List ℕ) (h a m b x : ℕ) : Type 0 where
   pub second : b ≡ digitOf (getD s 16 0)
   pub seconds : x ≡ twoOr s 17
 
+-- the code's test of the shape, in which a colon is 10
+abbrev pub colonsTest : ℕ → ℕ → ℕ → ℕ → ℕ → Bool
+colonsTest h a m b x = ltb h 100 && (eqb a 10 && (ltb m 100 && (eqb b 10 && ltb x 100)))
+
 module _ {s : List ℕ} {h a m b x : ℕ} (fits : (i : ℕ) → getD s i 0 < 256) (r : ColonsRead s h a m b x) where
-  colons : ltb h 100 && (eqb a 10 && (ltb m 100 && (eqb b 10 && ltb x 100))) ≡ hasColons (drop 11 s)
+  colons : colonsTest h a m b x ≡ hasColons (drop 11 s)
   colons =
       rw (
         two-test 11 s 0 (r .hour),
@@ -34,15 +39,15 @@ module _ {s : List ℕ} {h a m b x : ℕ} (fits : (i : ℕ) → getD s i 0 < 256
         two-test 11 s 6 (r .seconds),
       )
 
-  pub no-colons : ltb h 100 && (eqb a 10 && (ltb m 100 && (eqb b 10 && ltb x 100))) ≡ false → basicTime (drop 11 s) ≡ timeOf (drop 11 s)
+  pub no-colons : not (colonsTest h a m b x) ≡ true → basicTime (drop 11 s) ≡ timeOf (drop 11 s)
   unfolding timeOf
-  no-colons e = ap (λ c. cond c (afterSeconds _ _ _ _) (basicTime (drop 11 s))) (sym e ∙ colons)
+  no-colons e = ap (λ c. cond c (afterSeconds _ _ _ _) (basicTime (drop 11 s))) (sym (not-true (colonsTest h a m b x) e) ∙ colons)
 
-  pub with-colons : ltb h 100 && (eqb a 10 && (ltb m 100 && (eqb b 10 && ltb x 100))) ≡ true → afterSeconds h m x (drop 19 s) ≡ timeOf (drop 11 s)
+  pub with-colons : not (colonsTest h a m b x) ≡ false → afterSeconds h m x (drop 19 s) ≡ timeOf (drop 11 s)
   unfolding timeOf
   with-colons e =
       let t = drop 11 s in
-      let c : hasColons (drop 11 s) ≡ true = sym colons ∙ e in
+      let c : hasColons (drop 11 s) ≡ true = sym colons ∙ not-false (colonsTest h a m b x) e in
       let y = five (twoDigits t 0) (eqb (getD t 2 0) 0x3A) (twoDigits t 3) (eqb (getD t 5 0) 0x3A) (twoDigits t 6) c in
       rw (c, two-value 11 s 0 (r .hour) (y .0), two-value 11 s 3 (r .minute) (y .2), two-value 11 s 6 (r .seconds) (y .4), drop-drop 8 11 s)
 
@@ -55,8 +60,11 @@ pub record BasicRead (s : List ℕ) (h m x a b : ℕ) : Type 0 where
   pub next : a ≡ digitOf (getD s 17 0)
   pub after : b ≡ digitOf (getD s 18 0)
 
+abbrev pub basicTest : ℕ → ℕ → ℕ → ℕ → ℕ → Bool
+basicTest h m x a b = ltb h 100 && (ltb m 100 && (ltb x 100 && (leb 10 a && leb 10 b)))
+
 module _ {s : List ℕ} {h m x a b : ℕ} (fits : (i : ℕ) → getD s i 0 < 256) (r : BasicRead s h m x a b) where
-  basics : ltb h 100 && (ltb m 100 && (ltb x 100 && (leb 10 a && leb 10 b))) ≡ isBasic (drop 11 s)
+  basics : basicTest h m x a b ≡ isBasic (drop 11 s)
   basics =
       rw (
         two-test 11 s 0 (r .hour),
@@ -66,14 +74,14 @@ module _ {s : List ℕ} {h m x a b : ℕ} (fits : (i : ℕ) → getD s i 0 < 256
         digit-test 11 s 7 (fits 18) (r .after),
       )
 
-  pub no-time : ltb h 100 && (ltb m 100 && (ltb x 100 && (leb 10 a && leb 10 b))) ≡ false → none ≡ basicTime (drop 11 s)
-  no-time e = rw (sym basics ∙ e)
+  pub no-time : not (basicTest h m x a b) ≡ true → none ≡ basicTime (drop 11 s)
+  no-time e = rw (sym basics ∙ not-true (basicTest h m x a b) e)
 
-  pub without-colons : ltb h 100 && (ltb m 100 && (ltb x 100 && (leb 10 a && leb 10 b))) ≡ true → timedAt h m x 0 (drop 17 s) ≡ basicTime (drop 11 s)
+  pub without-colons : not (basicTest h m x a b) ≡ false → timedAt h m x 0 (drop 17 s) ≡ basicTime (drop 11 s)
   unfolding nanosFrom
   without-colons e =
       let t = drop 11 s in
-      let c : isBasic (drop 11 s) ≡ true = sym basics ∙ e in
+      let c : isBasic (drop 11 s) ≡ true = sym basics ∙ not-false (basicTest h m x a b) e in
       let y = five (twoDigits t 0) (twoDigits t 2) (twoDigits t 4) (not (isDigit (getD t 6 0))) (not (isDigit (getD t 7 0))) c in
       rw (c, two-value 11 s 0 (r .hour) (y .0), two-value 11 s 2 (r .minute) (y .1), two-value 11 s 4 (r .seconds) (y .2), drop-drop 6 11 s)
 
