@@ -5,13 +5,14 @@ use mathlib.Core.List.{List}
 use mathlib.Core.Option.{none}
 use Prim.Native.Nat.{ℕ, _+_, _*_, _<_}
 use lib.Dec.{ltb, eqb, lit<}
-use lib.ListN.{getD}
+use lib.ListN.{getD, length}
 use lib.IntN.{ℤ, pos}
 use borrow.Author.Tests.{not-true, not-false}
 use Rattle.calendar.specs.Calendar.{civil}
 use Rattle.text.specs.Digits.{digitOf}
+use Rattle.text.proofs.Bools.{and-false}
 use Rattle.timestamp.specs.Answer.{twoDigits, isDate, dayOf}
-use Rattle.timestamp.proofs.TwoDigits.{twoOr, two-test, two-value, sign-test, six}
+use Rattle.timestamp.proofs.TwoDigits.{twoOr, past-end, two-test, two-value, sign-test, six}
 
 -- century, year of it, month and day are the numbers at their places, and h and k the bytes between
 pub record DateRead (s : List ℕ) (c y h m k d : ℕ) : Type 0 where
@@ -48,3 +49,8 @@ module _ {s : List ℕ} {c y h m k d : ℕ} (fits : (i : ℕ) → getD s i 0 < 2
       let t : isDate s ≡ true = sym shape ∙ not-false (dateTest c y h m k d) e in
       let x = six (twoDigits s 0) (twoDigits s 2) (eqb (getD s 4 0) 0x2D) (twoDigits s 5) (eqb (getD s 7 0) 0x2D) (twoDigits s 8) t in
       rw (q, t, two-value 0 s 0 (r .century) (x .0), two-value 0 s 2 (r .year) (x .1), two-value 0 s 5 (r .month) (x .3), two-value 0 s 8 (r .day) (x .5))
+
+-- cut short
+pub short-of-date : (s : List ℕ) → length s < 10 → none ≡ dayOf s
+unfolding dayOf
+short-of-date s h = simp (past-end s 8 h, and-false)

@@ -6,3 +6,4 @@ pub mod Nanos
 pub mod Instants
 pub mod Fractions
 pub mod Endings
+pub mod Outcomes

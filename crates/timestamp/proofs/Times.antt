@@ -41,7 +41,7 @@ module _ {s : List ℕ} {h a m b x : ℕ} (fits : (i : ℕ) → getD s i 0 < 256
 
   pub no-colons : not (colonsTest h a m b x) ≡ true → basicTime (drop 11 s) ≡ timeOf (drop 11 s)
   unfolding timeOf
-  no-colons e = ap (λ c. cond c (afterSeconds _ _ _ _) (basicTime (drop 11 s))) (sym (not-true (colonsTest h a m b x) e) ∙ colons)
+  no-colons e = rw (sym colons ∙ not-true (colonsTest h a m b x) e)
 
   pub with-colons : not (colonsTest h a m b x) ≡ false → afterSeconds h m x (drop 19 s) ≡ timeOf (drop 11 s)
   unfolding timeOf
