@@ -1,0 +1,40 @@
+-- `stamp::string_to_timestamp_nanos` meets its contract. Assumes nothing.
+use Rattle.timestamp.proofs.Outcomes.{onward}
+use Rattle.timestamp.specs.Answer.{momentIs}
+use mathlib.Core.Path.{sym, ap, _∙_}
+use borrow.Author.Needs.{needs}
+use Rattle.timestamp.proofs.stamp.string_to_timestamp_nanos.Statement.{statement}
+use Rattle.timestamp.proofs.stamp.string_to_timestamp_nanos.Tie as tie
+
+string-to-datetime-requires : tie.Need-string-to-datetime-requires
+string-to-datetime-requires c κs = search needs
+
+enum-known-x : tie.Need-enum-known-x
+enum-known-x c = search needs
+
+in-nanos-requires : tie.Need-in-nanos-requires
+in-nanos-requires c κs = search needs
+
+enum-known-why : tie.Need-enum-known-why
+enum-known-why c = search needs
+
+returns : tie.Need-returns
+returns c =
+    let d = c .before .before .before .before in
+    c .in-nanos .ensures ∙ onward (sym (ap momentIs (c .before .before .x .given .1)) ∙ d .string-to-datetime .ensures)
+
+returns-2 : tie.Need-returns-2
+returns-2 c =
+    let d = c .before .before .before in
+    onward (sym (ap momentIs (c .before .why .given .1)) ∙ d .string-to-datetime .ensures)
+
+pub string-to-timestamp-nanos-spec : {M : Type 1} → statement M
+string-to-timestamp-nanos-spec =
+    tie.close
+    (tie.spec
+    string-to-datetime-requires
+    enum-known-x
+    in-nanos-requires
+    enum-known-why
+    returns
+    returns-2)
