@@ -61,7 +61,6 @@ pub fn date(s: &[u8]) -> Day
 // - `092656`
 // with the place where it ends.
 pub fn time(s: &[u8]) -> TimeAndEnd
-    requires { ⌜ 11 ≤ length (now s) ⌝ }
     ensures { λ r. ⌜ endsAt (now (s .entry)) r ≡ timeOf (drop 11 (now (s .entry))) ⌝ }
 {
     if s.len() < 17 {
@@ -106,8 +105,7 @@ fn basic(s: &[u8]) -> TimeAndEnd
     let second = two(s, 15);
     let next = digit(byte_at(s, 17));
     let after = digit(byte_at(s, 18));
-    let shape = (hour < 100)
-        & ((minute < 100) & ((second < 100) & ((10 <= next) & (10 <= after))));
+    let shape = (hour < 100) & ((minute < 100) & ((second < 100) & ((10 <= next) & (10 <= after))));
     if !shape {
         return TimeAndEnd::None;
     }
