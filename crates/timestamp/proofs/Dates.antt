@@ -12,7 +12,7 @@ use Rattle.calendar.specs.Calendar.{civil}
 use Rattle.text.specs.Digits.{digitOf}
 use Rattle.text.proofs.Bools.{and-false}
 use Rattle.timestamp.specs.Answer.{twoDigits, isDate, dayOf}
-use Rattle.timestamp.proofs.TwoDigits.{twoOr, past-end, two-test, two-value, sign-test, six}
+use Rattle.timestamp.proofs.TwoDigits.{twoOr, past-end, two-test, two-is, sign-test, all-six}
 
 -- century, year of it, month and day are the numbers at their places, and h and k the bytes between
 pub record DateRead (s : List ℕ) (c y h m k d : ℕ) : Type 0 where
@@ -47,8 +47,8 @@ module _ {s : List ℕ} {c y h m k d : ℕ} (fits : (i : ℕ) → getD s i 0 < 2
   unfolding dayOf
   a-date q e =
       let t : isDate s ≡ true = sym shape ∙ not-false (dateTest c y h m k d) e in
-      let x = six (twoDigits s 0) (twoDigits s 2) (eqb (getD s 4 0) 0x2D) (twoDigits s 5) (eqb (getD s 7 0) 0x2D) (twoDigits s 8) t in
-      rw (q, t, two-value 0 s 0 (r .century) (x .0), two-value 0 s 2 (r .year) (x .1), two-value 0 s 5 (r .month) (x .3), two-value 0 s 8 (r .day) (x .5))
+      let x = all-six (twoDigits s 0) (twoDigits s 2) (eqb (getD s 4 0) 0x2D) (twoDigits s 5) (eqb (getD s 7 0) 0x2D) (twoDigits s 8) t in
+      rw (q, t, two-is 0 s 0 (r .century) (x .0), two-is 0 s 2 (r .year) (x .1), two-is 0 s 5 (r .month) (x .3), two-is 0 s 8 (r .day) (x .5))
 
 -- cut short
 pub short-of-date : (s : List ℕ) → length s < 10 → none ≡ dayOf s

@@ -1,6 +1,6 @@
 -- What follows the seconds, from byte 19 on, and the time as it is made of its fields. Assumes nothing.
 use mathlib.Core.Path.{_≡_, refl, sym, ap, _∙_}
-use mathlib.Core.Bool.{true, cond, _&&_}
+use mathlib.Core.Bool.{cond, _&&_}
 use mathlib.Core.List.{List}
 use mathlib.Core.Option.{Option, none, some}
 use Prim.Native.Nat.{ℕ, _+_, _*_, _-_, _≤_, _<_}
@@ -22,7 +22,9 @@ abbrev pub withTail : List ℕ → Option ℕ → Option Timed
 withTail t none = none
 withTail t (some n) = some (record { nanos = n; tail = t })
 
-pub timed-at : (h m s n : ℕ) (t : List ℕ) → n < 1000000000 → withTail t (cond (inRange h m s && ltb n 1000000000) (some (((h * 60 + m) * 60 + s) * 1000000000 + n)) none) ≡ timedAt h m s n t
+pub timed-at :
+    (h m s n : ℕ) (t : List ℕ) → n < 1000000000 →
+    withTail t (cond (inRange h m s && ltb n 1000000000) (some (((h * 60 + m) * 60 + s) * 1000000000 + n)) none) ≡ timedAt h m s n t
 timed-at h m s n t l = rw (lt-ltb n 1000000000 l) (by-test (inRange h m s) (λ e. rw e) (λ e. rw e))
 
 -- ---- d is byte 19 less 48; a point is 254
@@ -31,8 +33,8 @@ module _ (s : List ℕ) {d : ℕ} (fits : (i : ℕ) → getD s i 0 < 256) (e : d
   point-test : eqb d 254 ≡ eqb (getD (drop 19 s) 0 0) 0x2E
   point-test = sign-test 19 s 0 254 0x2E (fits 19) (lit< tt) refl e
 
-  pub inside : d ≡ 254 → 20 ≤ length s
-  inside p =
+  pub point-inside : d ≡ 254 → 20 ≤ length s
+  point-inside p =
       by-test (ltb 19 (length s))
       (λ t. omega (arith, ltb-true 19 (length s) t))
       (λ t. absurd (omega (arith, List·getD-eq-default s 0 {n = 19} (ltb-false 19 (length s) t))))
@@ -45,7 +47,10 @@ module _ (s : List ℕ) {d : ℕ} (fits : (i : ℕ) → getD s i 0 < 256) (e : d
     pub point-alone : d ≡ 254 → run (drop 20 s) ≡ 0 → none ≡ afterSeconds h m x (drop 19 s)
     point-alone p z = rw (sym point-test ∙ eq-eqb d 254 p, drop-drop 1 19 s, z)
 
-    pub fraction : d ≡ 254 → {n end : ℕ} → end ≡ 20 + run (drop 20 s) → (end ≡ 20 → ⊥) → n ≡ led 100000000 (end - 20) (take (end - 20) (drop 20 s)) → timedAt h m x n (drop end s) ≡ afterSeconds h m x (drop 19 s)
+    pub fraction :
+        d ≡ 254 → {n end : ℕ} →
+        end ≡ 20 + run (drop 20 s) → (end ≡ 20 → ⊥) →
+        n ≡ led 100000000 (end - 20) (take (end - 20) (drop 20 s)) → timedAt h m x n (drop end s) ≡ afterSeconds h m x (drop 19 s)
     fraction p {n} {end} q z en =
         let r : end - 20 ≡ run (drop 20 s) = omega arith in
         let v : n ≡ nanosOf (take (run (drop 20 s)) (drop 20 s)) = (rw r at en) ∙ of-run (drop 20 s) in

@@ -1,9 +1,9 @@
 -- A time, from byte 11 on, from the values that the code has of its bytes: with colons, without, and cut short. Assumes nothing.
-use mathlib.Core.Path.{_≡_, refl, sym, ap, _∙_}
-use mathlib.Core.Bool.{Bool, true, false, cond, not, _&&_}
-use mathlib.Core.List.{List, []}
+use mathlib.Core.Path.{_≡_, refl, sym, _∙_}
+use mathlib.Core.Bool.{Bool, true, false, not, _&&_}
+use mathlib.Core.List.{List}
 use mathlib.Core.Option.{none}
-use Prim.Native.Nat.{ℕ, _+_, _*_, _<_}
+use Prim.Native.Nat.{ℕ, _<_}
 use native.Mathlib.Omega.{arith}
 use lib.Dec.{ltb, leb, eqb, lit<}
 use lib.ListN.{getD, drop, length, length-drop}
@@ -13,7 +13,7 @@ use Rattle.text.specs.Digits.{isDigit, digitOf}
 use Rattle.text.proofs.Bools.{and-false}
 use Rattle.timestamp.specs.Clock.{nanosFrom}
 use Rattle.timestamp.specs.Answer.{twoDigits, hasColons, isBasic, afterSeconds, basicTime, timedAt, timeOf}
-use Rattle.timestamp.proofs.TwoDigits.{twoOr, past-end, two-test, two-value, sign-test, digit-test, five}
+use Rattle.timestamp.proofs.TwoDigits.{twoOr, past-end, two-test, two-is, sign-test, digit-test, all-five}
 
 -- ---- with colons: hour, minute and second are the numbers at their places, and a and b the bytes between
 
@@ -48,8 +48,8 @@ module _ {s : List ℕ} {h a m b x : ℕ} (fits : (i : ℕ) → getD s i 0 < 256
   with-colons e =
       let t = drop 11 s in
       let c : hasColons (drop 11 s) ≡ true = sym colons ∙ not-false (colonsTest h a m b x) e in
-      let y = five (twoDigits t 0) (eqb (getD t 2 0) 0x3A) (twoDigits t 3) (eqb (getD t 5 0) 0x3A) (twoDigits t 6) c in
-      rw (c, two-value 11 s 0 (r .hour) (y .0), two-value 11 s 3 (r .minute) (y .2), two-value 11 s 6 (r .seconds) (y .4), drop-drop 8 11 s)
+      let y = all-five (twoDigits t 0) (eqb (getD t 2 0) 0x3A) (twoDigits t 3) (eqb (getD t 5 0) 0x3A) (twoDigits t 6) c in
+      rw (c, two-is 11 s 0 (r .hour) (y .0), two-is 11 s 3 (r .minute) (y .2), two-is 11 s 6 (r .seconds) (y .4), drop-drop 8 11 s)
 
 -- ---- without colons: a and b are the two bytes after the seconds
 
@@ -82,8 +82,8 @@ module _ {s : List ℕ} {h m x a b : ℕ} (fits : (i : ℕ) → getD s i 0 < 256
   without-colons e =
       let t = drop 11 s in
       let c : isBasic (drop 11 s) ≡ true = sym basics ∙ not-false (basicTest h m x a b) e in
-      let y = five (twoDigits t 0) (twoDigits t 2) (twoDigits t 4) (not (isDigit (getD t 6 0))) (not (isDigit (getD t 7 0))) c in
-      rw (c, two-value 11 s 0 (r .hour) (y .0), two-value 11 s 2 (r .minute) (y .1), two-value 11 s 4 (r .seconds) (y .2), drop-drop 6 11 s)
+      let y = all-five (twoDigits t 0) (twoDigits t 2) (twoDigits t 4) (not (isDigit (getD t 6 0))) (not (isDigit (getD t 7 0))) c in
+      rw (c, two-is 11 s 0 (r .hour) (y .0), two-is 11 s 2 (r .minute) (y .1), two-is 11 s 4 (r .seconds) (y .2), drop-drop 6 11 s)
 
 -- ---- cut short
 

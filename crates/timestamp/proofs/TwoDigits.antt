@@ -70,8 +70,8 @@ module _ (n : ℕ) (s : List ℕ) (i : ℕ) {v : ℕ} where
   pub two-test : v ≡ twoOr s (n + i) → ltb v 100 ≡ twoDigits (drop n s) i
   two-test e = ap (λ (x : ℕ). ltb x 100) (e ∙ sym (two-from n s i)) ∙ is-two (drop n s) i
 
-  pub two-value : v ≡ twoOr s (n + i) → twoDigits (drop n s) i ≡ true → v ≡ twoAt (drop n s) i
-  two-value e h = e ∙ sym (two-from n s i) ∙ rw h
+  pub two-is : v ≡ twoOr s (n + i) → twoDigits (drop n s) i ≡ true → v ≡ twoAt (drop n s) i
+  two-is e h = e ∙ sym (two-from n s i) ∙ rw h
 
   pub sign-test : (k c : ℕ) → getD s (n + i) 0 < 256 → c < 256 → k ≡ digitOf c → v ≡ digitOf (getD s (n + i) 0) → eqb v k ≡ eqb (getD (drop n s) i 0) c
   sign-test k c fb fc ek e = rw (e, getD-drop n s i 0) (sign (getD s (n + i) 0) k c fb fc ek)
@@ -81,14 +81,14 @@ module _ (n : ℕ) (s : List ℕ) (i : ℕ) {v : ℕ} where
 
 -- ---- all of five tests, and all of six
 
-pub five : (a b c d e : Bool) → a && (b && (c && (d && e))) ≡ true → (a ≡ true) × (b ≡ true) × (c ≡ true) × (d ≡ true) × (e ≡ true)
-five a b c d e h =
+pub all-five : (a b c d e : Bool) → a && (b && (c && (d && e))) ≡ true → (a ≡ true) × (b ≡ true) × (c ≡ true) × (d ≡ true) × (e ≡ true)
+all-five a b c d e h =
     let h1 : b && (c && (d && e)) ≡ true = and-right a (b && (c && (d && e))) h in
     let h2 : c && (d && e) ≡ true = and-right b (c && (d && e)) h1 in
     let h3 : d && e ≡ true = and-right c (d && e) h2 in
     (and-left a (b && (c && (d && e))) h, and-left b (c && (d && e)) h1, and-left c (d && e) h2, and-left d e h3, and-right d e h3)
 
-pub six : (a b c d e f : Bool) → a && (b && (c && (d && (e && f)))) ≡ true → (a ≡ true) × (b ≡ true) × (c ≡ true) × (d ≡ true) × (e ≡ true) × (f ≡ true)
-six a b c d e f h =
-    let r = five b c d e f (and-right a (b && (c && (d && (e && f)))) h) in
+pub all-six : (a b c d e f : Bool) → a && (b && (c && (d && (e && f)))) ≡ true → (a ≡ true) × (b ≡ true) × (c ≡ true) × (d ≡ true) × (e ≡ true) × (f ≡ true)
+all-six a b c d e f h =
+    let r = all-five b c d e f (and-right a (b && (c && (d && (e && f)))) h) in
     (and-left a (b && (c && (d && (e && f)))) h, r .0, r .1, r .2, r .3, r .4)

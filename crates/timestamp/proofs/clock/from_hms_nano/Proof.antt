@@ -1,17 +1,19 @@
--- `clock::from_hms_nano` meets its contract. Assumes nothing.
-use Rattle.timestamp.specs.Clock.{inRange}
-use Rattle.text.proofs.Bools.{and-right}
-use borrow.Author.Tests.{not-true, not-false, ltb-true}
-use lib.Dec.{ltb}
-use native.Mathlib.Omega.{arith}
+-- `timestamp::clock::from_hms_nano` meets its contract, with second 60 as 59 and a second more. Assumes nothing.
 use mathlib.Core.Option.{some}
 use mathlib.Core.Bool.{true, _&&_}
 use mathlib.Core.Path.{_≡_, ap}
+use native.Mathlib.Omega.{arith}
+use lib.Dec.{ltb}
+use borrow.Author.Tests.{not-true, not-false, ltb-true}
 use borrow.Author.Needs.{needs}
+use Rattle.text.proofs.Bools.{and-right}
+use Rattle.timestamp.specs.Clock.{inRange}
 use Rattle.timestamp.proofs.clock.from_hms_nano.Statement.{statement}
 use Rattle.timestamp.proofs.clock.from_hms_nano.Tie as tie
 
-in-range : (c : tie.Else1) → inRange (c .before .args .hour) (c .before .args .min) (c .before .args .sec) && ltb (c .before .args .nano) 1000000000 ≡ true
+in-range :
+    (c : tie.Else1) →
+    inRange (c .before .args .hour) (c .before .args .min) (c .before .args .sec) && ltb (c .before .args .nano) 1000000000 ≡ true
 in-range c =
     let x = c .before .args in
     not-false (inRange (x .hour) (x .min) (x .sec) && ltb (x .nano) 1000000000) (c .if1 .left)

@@ -1,11 +1,11 @@
--- `clock::parse_nanos` meets its contract. The loop's invariant: what is counted and what the digits from i on count are what all count,
+-- `timestamp::clock::parse_nanos` meets its contract. The loop's invariant: what is counted and what the digits from i on count are what all count,
 -- and there is room for a digit more. The measure is what is left of n. Assumes nothing.
-use Rattle.timestamp.proofs.Nanos.{led, at-start, none-more, at-end, no-digit-here, digit-more, short-of}
-use lib.ListN.{drop}
-use native.Mathlib.Omega.{arith}
-use Prim.Native.Nat.{_+_, _*_, _-_, _≤_, _<_}
 use mathlib.Core.Path.{_≡_}
+use Prim.Native.Nat.{_+_, _*_, _-_, _≤_, _<_}
+use native.Mathlib.Omega.{arith}
+use lib.ListN.{drop}
 use borrow.Author.Needs.{needs}
+use Rattle.timestamp.proofs.Nanos.{led, at-start, none-more, at-end, no-digit-here, digit-more, short-of}
 use Rattle.timestamp.proofs.clock.parse_nanos.Statement.{statement}
 use Rattle.timestamp.proofs.clock.parse_nanos.Tie as tie
 
@@ -17,7 +17,8 @@ abbrev μ-loop : tie.MeasureT-loop
 μ-loop digits n nanos₀ unit₀ i₀ nanos unit i = n - i
 
 -- what a digit adds
-little : (c : tie.Else2 Inv-loop μ-loop) → c .before .digit .result * c .before .before .before .before .before .loop .unit ≤ 9 * c .before .before .before .before .before .loop .unit
+little : (c : tie.Else2 Inv-loop μ-loop) →
+    c .before .digit .result * c .before .before .before .before .before .loop .unit ≤ 9 * c .before .before .before .before .before .loop .unit
 little c = short-of (c .before .before .before .before .before .loop .unit) _ (c .if2 .left)
 
 loop-holds : tie.Need-loop-holds Inv-loop μ-loop
@@ -42,7 +43,11 @@ returns-2 c =
     let k = c .before .before in
     let l = k .before .before .before in
     let g = l .before .before .args in
-    omega (arith, no-digit-here (l .loop .unit) (g .digits .now) (l .loop .i) _ (k .before .if1 .left) (k .shared-slice-known2 .given (l .loop .i) .fits) (c .before .digit .ensures) (g .n - l .loop .i) (c .if2 .taken))
+    omega (
+      arith,
+      no-digit-here (l .loop .unit) (g .digits .now) (l .loop .i) _ (k .before .if1 .left)
+          (k .shared-slice-known2 .given (l .loop .i) .fits) (c .before .digit .ensures) (g .n - l .loop .i) (c .if2 .taken),
+    )
 
 cast-nanos : tie.Need-cast-nanos Inv-loop μ-loop
 cast-nanos c = search needs
@@ -64,7 +69,12 @@ loop-again c =
     let k = c .before .before in
     let l = k .before .before .before in
     let g = l .before .before .args in
-    omega (arith, little c, digit-more (l .loop .unit) (g .digits .now) (l .loop .i) _ (k .before .if1 .left) (k .shared-slice-known2 .given (l .loop .i) .fits) (c .before .digit .ensures) (g .n) (k .before .before .loop-test .taken) (c .if2 .left))
+    omega (
+      arith,
+      little c,
+      digit-more (l .loop .unit) (g .digits .now) (l .loop .i) _ (k .before .if1 .left)
+          (k .shared-slice-known2 .given (l .loop .i) .fits) (c .before .digit .ensures) (g .n) (k .before .before .loop-test .taken) (c .if2 .left),
+    )
 
 returns-3 : tie.Need-returns-3 Inv-loop μ-loop
 returns-3 c =

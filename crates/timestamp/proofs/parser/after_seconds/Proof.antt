@@ -1,10 +1,10 @@
--- `parser::after_seconds` meets its contract, by the laws of what follows the seconds. Assumes nothing.
-use Rattle.timestamp.proofs.Fractions.{inside, no-point, point-alone, fraction}
-use Rattle.text.specs.Digits.{digitOf}
-use lib.ListN.{getD}
-use native.Mathlib.Omega.{arith}
+-- `timestamp::parser::after_seconds` meets its contract, by the laws of what follows the seconds. Assumes nothing.
 use mathlib.Core.Path.{_≡_, ap, _∙_}
+use native.Mathlib.Omega.{arith}
+use lib.ListN.{getD}
 use borrow.Author.Needs.{needs}
+use Rattle.text.specs.Digits.{digitOf}
+use Rattle.timestamp.proofs.Fractions.{point-inside, no-point, point-alone, fraction}
 use Rattle.timestamp.proofs.parser.after_seconds.Statement.{statement}
 use Rattle.timestamp.proofs.parser.after_seconds.Tie as tie
 
@@ -25,7 +25,8 @@ returns c =
     let d = c .before .before in
     let b = d .before .before in
     let x = b .before .args in
-    c .at .ensures ∙ no-point (x .s .now) (λ i. b .shared-slice-known .given i .fits) (byte-19 d) (x .hour) (x .minute) (x .second) (c .before .if1 .taken)
+    c .at .ensures ∙
+    no-point (x .s .now) (λ i. b .shared-slice-known .given i .fits) (byte-19 d) (x .hour) (x .minute) (x .second) (c .before .if1 .taken)
 
 run-end-requires : tie.Need-run-end-requires
 run-end-requires c κs = search needs
@@ -35,7 +36,8 @@ returns-2 c =
     let d = c .before .before .before in
     let b = d .before .before in
     let x = b .before .args in
-    point-alone (x .s .now) (λ i. b .shared-slice-known .given i .fits) (byte-19 d) (x .hour) (x .minute) (x .second) (c .before .before .if1 .left) (omega (arith, c .before .run-end .ensures .0, c .if2 .taken))
+    point-alone (x .s .now) (λ i. b .shared-slice-known .given i .fits) (byte-19 d) (x .hour) (x .minute) (x .second)
+    (c .before .before .if1 .left) (omega (arith, c .before .run-end .ensures .0, c .if2 .taken))
 
 sub-parse-nanos : tie.Need-sub-parse-nanos
 sub-parse-nanos c = search needs
@@ -48,7 +50,7 @@ part-parse-nanos-end c =
     let d = c .before .before .before in
     let b = d .before .before in
     let x = b .before .args in
-    c .before .run-end .ensures .1 (inside (x .s .now) (λ i. b .shared-slice-known .given i .fits) (byte-19 d) (c .before .before .if1 .left))
+    c .before .run-end .ensures .1 (point-inside (x .s .now) (λ i. b .shared-slice-known .given i .fits) (byte-19 d) (c .before .before .if1 .left))
 
 sub-parse-nanos-2 : tie.Need-sub-parse-nanos-2
 sub-parse-nanos-2 c = search needs
@@ -65,7 +67,9 @@ returns-3 c =
     let d = e .before .before in
     let b = d .before .before in
     let x = b .before .args in
-    c .at2 .ensures ∙ fraction (x .s .now) (λ i. b .shared-slice-known .given i .fits) (byte-19 d) (x .hour) (x .minute) (x .second) (e .before .if1 .left) (e .run-end .ensures .0) (c .before .before .before .if2 .left) (c .before .parse-nanos .ensures .0)
+    c .at2 .ensures ∙
+    fraction (x .s .now) (λ i. b .shared-slice-known .given i .fits) (byte-19 d) (x .hour) (x .minute) (x .second)
+    (e .before .if1 .left) (e .run-end .ensures .0) (c .before .before .before .if2 .left) (c .before .parse-nanos .ensures .0)
 
 pub after-seconds-spec : {M : Type 1} → statement M
 after-seconds-spec =

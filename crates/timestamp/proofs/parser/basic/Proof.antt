@@ -1,19 +1,32 @@
--- `parser::basic` meets its contract, by the laws of a time without colons. Assumes nothing.
-use Rattle.timestamp.proofs.Times.{BasicRead, no-time, without-colons}
-use Rattle.text.specs.Digits.{digitOf}
+-- `timestamp::parser::basic` meets its contract, by the laws of a time without colons. Assumes nothing.
 use mathlib.Core.Path.{ap, _∙_}
 use borrow.Author.Needs.{needs}
+use Rattle.text.specs.Digits.{digitOf}
+use Rattle.timestamp.proofs.Times.{BasicRead, no-time, without-colons}
 use Rattle.timestamp.proofs.parser.basic.Statement.{statement}
 use Rattle.timestamp.proofs.parser.basic.Tie as tie
 
-abbrev start : tie.After-digit2 → tie.After-shared-slice-known
-start c = c .before .before .before .before .before .before .before
+-- from where all is read back to where the numbers are, and to the text
+abbrev numbers : tie.After-digit2 → tie.After-two3
+numbers c = c .before .before .before .before
 
-values : (c : tie.After-digit2) → BasicRead (start c .before .args .s .now) (c .before .before .before .before .before .before .two .result) (c .before .before .before .before .before .two2 .result) (c .before .before .before .before .two3 .result) (c .before .before .digit .result) (c .digit2 .result)
+abbrev start : tie.After-digit2 → tie.After-shared-slice-known
+start c = numbers c .before .before .before
+
+values :
+    (c : tie.After-digit2) →
+    BasicRead (start c .before .args .s .now) (numbers c .before .before .two .result) (numbers c .before .two2 .result)
+    (numbers c .two3 .result) (c .before .before .digit .result) (c .digit2 .result)
 values c =
     let d = c .before .before in
-    let t = d .before .before in
-    record { hour = t .before .before .two .ensures; minute = t .before .two2 .ensures; seconds = t .two3 .ensures; next = d .digit .ensures ∙ ap digitOf (d .before .byte-at .ensures); after = c .digit2 .ensures ∙ ap digitOf (c .before .byte-at2 .ensures) }
+    let k = numbers c in
+    record {
+      hour = k .before .before .two .ensures;
+      minute = k .before .two2 .ensures;
+      seconds = k .two3 .ensures;
+      next = d .digit .ensures ∙ ap digitOf (d .before .byte-at .ensures);
+      after = c .digit2 .ensures ∙ ap digitOf (c .before .byte-at2 .ensures);
+    }
 
 two-requires : tie.Need-two-requires
 two-requires c κs = search needs

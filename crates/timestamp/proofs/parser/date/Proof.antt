@@ -1,18 +1,31 @@
--- `parser::date` meets its contract, by the laws of a date that was read. Assumes nothing.
-use Rattle.timestamp.proofs.Dates.{DateRead, no-date, a-date}
+-- `timestamp::parser::date` meets its contract, by the laws of a date that was read. Assumes nothing.
+use mathlib.Core.Path.{_∙_}
 use mir.Facts.{toZ-pos}
 use mir.Syntax.{w32}
-use Prim.Native.Nat.{_+_, _*_}
-use mathlib.Core.Path.{_∙_}
 use borrow.Author.Needs.{needs}
+use Rattle.timestamp.proofs.Dates.{DateRead, no-date, a-date}
 use Rattle.timestamp.proofs.parser.date.Statement.{statement}
 use Rattle.timestamp.proofs.parser.date.Tie as tie
 
-values : (c : tie.After-digit2) → DateRead (c .before .before .before .before .before .before .before .before .before .args .s .now) (c .before .before .before .before .before .before .before .two .result) (c .before .before .before .before .before .before .two2 .result) (c .before .before .digit .result) (c .before .before .before .before .before .two3 .result) (c .digit2 .result) (c .before .before .before .before .two4 .result)
+-- from where all is read back to where the numbers are
+abbrev numbers : tie.After-digit2 → tie.After-two4
+numbers c = c .before .before .before .before
+
+values :
+    (c : tie.After-digit2) →
+    DateRead (numbers c .before .before .before .before .before .args .s .now) (numbers c .before .before .before .two .result)
+    (numbers c .before .before .two2 .result) (c .before .before .digit .result) (numbers c .before .two3 .result) (c .digit2 .result)
+    (numbers c .two4 .result)
 values c =
-    let d = c .before .before in
-    let k = d .before .before in
-    record { century = k .before .before .before .two .ensures; year = k .before .before .two2 .ensures; first = d .digit .ensures; month = k .before .two3 .ensures; second = c .digit2 .ensures; day = k .two4 .ensures }
+    let k = numbers c in
+    record {
+      century = k .before .before .before .two .ensures;
+      year = k .before .before .two2 .ensures;
+      first = c .before .before .digit .ensures;
+      month = k .before .two3 .ensures;
+      second = c .digit2 .ensures;
+      day = k .two4 .ensures;
+    }
 
 two-requires : tie.Need-two-requires
 two-requires c κs = search needs
@@ -68,7 +81,8 @@ days-from-ymd-requires c κs = search needs
 returns-2 : tie.Need-returns-2
 returns-2 c =
     let d = c .before .before in
-    c .days-from-ymd .ensures ∙ a-date (λ i. d .before .shared-slice-known3 .given i .fits) (values d) (toZ-pos w32 (cast-days-from-ymd (c .before) .sfits)) (c .before .if1 .left)
+    c .days-from-ymd .ensures ∙
+    a-date (λ i. d .before .shared-slice-known3 .given i .fits) (values d) (toZ-pos w32 (cast-days-from-ymd (c .before) .sfits)) (c .before .if1 .left)
 
 pub date-spec : {M : Type 1} → statement M
 date-spec =

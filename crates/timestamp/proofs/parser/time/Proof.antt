@@ -1,17 +1,27 @@
--- `parser::time` meets its contract, by the laws of a time with colons and of one cut short. Assumes nothing.
-use Rattle.timestamp.proofs.Times.{ColonsRead, no-colons, with-colons, short-of-colons, short-of-time}
+-- `timestamp::parser::time` meets its contract, by the laws of a time with colons and of one cut short. Assumes nothing.
 use mathlib.Core.Path.{_∙_}
 use borrow.Author.Needs.{needs}
+use Rattle.timestamp.proofs.Times.{ColonsRead, no-colons, with-colons, short-of-colons, short-of-time}
 use Rattle.timestamp.proofs.parser.time.Statement.{statement}
 use Rattle.timestamp.proofs.parser.time.Tie as tie
 
-abbrev read : tie.After-digit2 → tie.After-two3
-read c = c .before .before .before .before
+-- from where all is read back to where the numbers are
+abbrev numbers : tie.After-digit2 → tie.After-two3
+numbers c = c .before .before .before .before
 
-values : (c : tie.After-digit2) → ColonsRead (read c .before .before .before .before .before .before .args .s .now) (read c .before .before .two .result) (c .before .before .digit .result) (read c .before .two2 .result) (c .digit2 .result) (read c .two3 .result)
+values :
+    (c : tie.After-digit2) →
+    ColonsRead (numbers c .before .before .before .before .before .before .args .s .now) (numbers c .before .before .two .result)
+    (c .before .before .digit .result) (numbers c .before .two2 .result) (c .digit2 .result) (numbers c .two3 .result)
 values c =
-    let t = read c in
-    record { hour = t .before .before .two .ensures; first = c .before .before .digit .ensures; minute = t .before .two2 .ensures; second = c .digit2 .ensures; seconds = t .two3 .ensures }
+    let k = numbers c in
+    record {
+      hour = k .before .before .two .ensures;
+      first = c .before .before .digit .ensures;
+      minute = k .before .two2 .ensures;
+      second = c .digit2 .ensures;
+      seconds = k .two3 .ensures;
+    }
 
 returns : tie.Need-returns
 returns c = short-of-time (c .before .before .args .s .now) (c .if1 .taken)

@@ -1,6 +1,6 @@
--- `parser::two` meets its contract, by the laws of two digits at a place. Assumes nothing.
-use Rattle.timestamp.proofs.TwoDigits.{first-no, second-no, both-yes}
+-- `timestamp::parser::two` meets its contract, by the laws of two digits at a place. Assumes nothing.
 use borrow.Author.Needs.{needs}
+use Rattle.timestamp.proofs.TwoDigits.{first-no, second-no, both-yes}
 use Rattle.timestamp.proofs.parser.two.Statement.{statement}
 use Rattle.timestamp.proofs.parser.two.Tie as tie
 

@@ -1,11 +1,27 @@
--- `stamp::after_date` meets its contract, by the laws of what follows a date. Assumes nothing.
-use Rattle.timestamp.proofs.Outcomes.{midnight, not-separated, separated}
-use Rattle.timestamp.specs.Answer.{endsAt, onTime}
+-- `timestamp::stamp::after_date` meets its contract, by the laws of what follows a date. Assumes nothing.
+use mathlib.Core.Path.{_≡_, sym, ap, _∙_}
 use mir.Facts.{toZ-ofZ}
-use mathlib.Core.Path.{sym, ap, _∙_}
 use borrow.Author.Needs.{needs}
+use Rattle.timestamp.specs.declared.TimeAndEnd.{TimeAndEnd}
+use Rattle.timestamp.specs.Answer.{endsAt, onTime, afterDate}
+use Rattle.timestamp.proofs.Outcomes.{midnight, not-separated, separated}
 use Rattle.timestamp.proofs.stamp.after_date.Statement.{statement}
 use Rattle.timestamp.proofs.stamp.after_date.Tie as tie
+
+-- from the time that was read back to the entry, and on to the answer
+abbrev entry : tie.After-time → tie.Start
+entry c = c .before .before .before .before .before .before
+
+onward :
+    (c : tie.After-time) {r : TimeAndEnd} →
+    c .time .result ≡ r →
+    onTime (entry c .args .day) (endsAt (entry c .args .s .now) r) ≡ afterDate (entry c .args .s .now) (entry c .args .day)
+onward c q =
+    let d = c .before .before in
+    let x = entry c .args in
+    ap (onTime (x .day)) (sym (ap (endsAt (x .s .now)) q) ∙ c .time .ensures) ∙
+    separated (x .s .now) (x .day) (d .before .before .if1 .left) (d .before .shared-slice-known2 .given 10 .fits) (d .digit .ensures)
+    (c .before .if2 .left)
 
 returns : tie.Need-returns
 returns c =
@@ -40,18 +56,10 @@ enum-told c = search needs
 returns-3 : tie.Need-returns-3
 returns-3 c =
     let t = c .before .before .before .before in
-    let d = t .before .before in
-    let b = d .before .before in
-    let x = b .before .before .args in
-    c .at-end .ensures ∙ (rw (toZ-ofZ (b .before .before .fits .day)) (ap (onTime (x .day)) (sym (ap (endsAt (x .s .now)) (c .before .before .time2 .given .1)) ∙ t .time .ensures) ∙ separated (x .s .now) (x .day) (b .if1 .left) (d .before .shared-slice-known2 .given 10 .fits) (d .digit .ensures) (t .before .if2 .left)))
+    c .at-end .ensures ∙ rw (toZ-ofZ (entry t .fits .day)) (onward t (c .before .before .time2 .given .1))
 
 returns-4 : tie.Need-returns-4
-returns-4 c =
-    let t = c .before .before in
-    let d = t .before .before in
-    let b = d .before .before in
-    let x = b .before .before .args in
-    ap (onTime (x .day)) (sym (ap (endsAt (x .s .now)) (c .enum-told .given .1)) ∙ t .time .ensures) ∙ separated (x .s .now) (x .day) (b .if1 .left) (d .before .shared-slice-known2 .given 10 .fits) (d .digit .ensures) (t .before .if2 .left)
+returns-4 c = onward (c .before .before) (c .enum-told .given .1)
 
 pub after-date-spec : {M : Type 1} → statement M
 after-date-spec =

@@ -1,6 +1,6 @@
--- `stamp::at_end` meets its contract. Assumes nothing.
-use mir.Facts.{toZ-ofZ}
+-- `timestamp::stamp::at_end` meets its contract, by what `is_ending` ensures. Assumes nothing.
 use mathlib.Core.Path.{sym, _∙_}
+use mir.Facts.{toZ-ofZ}
 use borrow.Author.Needs.{needs}
 use Rattle.timestamp.proofs.stamp.at_end.Statement.{statement}
 use Rattle.timestamp.proofs.stamp.at_end.Tie as tie

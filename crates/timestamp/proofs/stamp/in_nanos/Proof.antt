@@ -1,11 +1,11 @@
--- `stamp::in_nanos` meets its contract. Assumes nothing.
-use Rattle.timestamp.proofs.Outcomes.{orRange, in-range}
-use Rattle.timestamp.specs.Answer.{instant, momentOf}
-use Rattle.number.specs.Widths.{int64}
+-- `timestamp::stamp::in_nanos` meets its contract: an instant that does not fit is refusal 6. Assumes nothing.
+use mathlib.Core.Path.{sym, ap, _∙_}
 use mir.Syntax.{w64}
 use mir.Facts.{toZ-ofZ}
-use mathlib.Core.Path.{sym, ap, _∙_}
 use borrow.Author.Needs.{needs}
+use Rattle.number.specs.Widths.{int64}
+use Rattle.timestamp.specs.Answer.{instant, momentOf}
+use Rattle.timestamp.proofs.Outcomes.{orRange, in-range}
 use Rattle.timestamp.proofs.stamp.in_nanos.Statement.{statement}
 use Rattle.timestamp.proofs.stamp.in_nanos.Tie as tie
 

@@ -1,6 +1,6 @@
--- `stamp::is_ending` meets its contract, by the laws of the end of a stamp. Assumes nothing.
-use Rattle.timestamp.proofs.Endings.{nothing-left, one-left, more-left}
+-- `timestamp::stamp::is_ending` meets its contract, by the laws of the end of a stamp. Assumes nothing.
 use borrow.Author.Needs.{needs}
+use Rattle.timestamp.proofs.Endings.{nothing-left, one-left, more-left}
 use Rattle.timestamp.proofs.stamp.is_ending.Statement.{statement}
 use Rattle.timestamp.proofs.stamp.is_ending.Tie as tie
 

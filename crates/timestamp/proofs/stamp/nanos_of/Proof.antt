@@ -1,8 +1,8 @@
--- `stamp::nanos_of` meets its contract, by the laws of seconds and their size. Assumes nothing.
-use Rattle.timestamp.proofs.Instants.{too-far, from-zero, below-zero, across-zero}
-use Rattle.number.specs.Widths.{fit}
+-- `timestamp::stamp::nanos_of` meets its contract, by the laws of seconds and their size. Assumes nothing.
 use mathlib.Core.Path.{ap, _∙_}
 use borrow.Author.Needs.{needs}
+use Rattle.number.specs.Widths.{fit}
+use Rattle.timestamp.proofs.Instants.{too-far, from-zero, below-zero, across-zero}
 use Rattle.timestamp.proofs.stamp.nanos_of.Statement.{statement}
 use Rattle.timestamp.proofs.stamp.nanos_of.Tie as tie
 
@@ -26,7 +26,8 @@ signed-i64-requires c κs = search needs
 returns-2 : tie.Need-returns-2
 returns-2 c =
     let m = c .before .before .before in
-    c .signed-i64 .ensures ∙ ap (fit 63) (from-zero (m .before .fits .secs) (m .before .args .nanos) (m .magnitude .ensures) (c .before .if2 .taken))
+    c .signed-i64 .ensures ∙
+    ap (fit 63) (from-zero (m .before .fits .secs) (m .before .args .nanos) (m .magnitude .ensures) (c .before .if2 .taken))
 
 signed-i64-requires-2 : tie.Need-signed-i64-requires-2
 signed-i64-requires-2 c κs = search needs
@@ -40,12 +41,14 @@ signed-i64-requires-3 c κs = search needs
 returns-3 : tie.Need-returns-3
 returns-3 c =
     let m = c .before .before .before .before in
-    c .signed-i642 .ensures ∙ ap (fit 63) (below-zero (m .before .fits .secs) (m .before .args .nanos) (m .magnitude .ensures) (c .before .before .if2 .left) (c .before .if3 .taken))
+    c .signed-i642 .ensures ∙
+    ap (fit 63) (below-zero (m .before .fits .secs) (m .before .args .nanos) (m .magnitude .ensures) (c .before .before .if2 .left) (c .before .if3 .taken))
 
 returns-4 : tie.Need-returns-4
 returns-4 c =
     let m = c .before .before .before .before in
-    c .signed-i643 .ensures ∙ ap (fit 63) (across-zero (m .before .fits .secs) (m .before .args .nanos) (m .magnitude .ensures) (c .before .before .if2 .left) (c .before .if3 .left))
+    c .signed-i643 .ensures ∙
+    ap (fit 63) (across-zero (m .before .fits .secs) (m .before .args .nanos) (m .magnitude .ensures) (c .before .before .if2 .left) (c .before .if3 .left))
 
 pub nanos-of-spec : {M : Type 1} → statement M
 nanos-of-spec =

@@ -1,11 +1,11 @@
--- `stamp::plain` meets its contract. Assumes nothing.
-use Rattle.timestamp.proofs.Outcomes.{after-day}
-use Rattle.timestamp.proofs.Dates.{short-of-date}
-use Rattle.calendar.specs.Calendar.{day}
+-- `timestamp::stamp::plain` meets its contract, by the law of what follows a day. Assumes nothing.
+use mathlib.Core.Path.{sym, ap, _∙_}
 use mir.Facts.{toZ-ofZ}
 use mir.Syntax.{w64}
-use mathlib.Core.Path.{sym, ap, _∙_}
 use borrow.Author.Needs.{needs}
+use Rattle.calendar.specs.Calendar.{day}
+use Rattle.timestamp.proofs.Outcomes.{after-day}
+use Rattle.timestamp.proofs.Dates.{short-of-date}
 use Rattle.timestamp.proofs.stamp.plain.Statement.{statement}
 use Rattle.timestamp.proofs.stamp.plain.Tie as tie
 
@@ -31,7 +31,9 @@ returns-2 c =
     let y = c .before .before in
     let d = y .before .before in
     let s = d .before .before .before .args .s .now in
-    c .after-date .ensures ∙ rw (toZ-ofZ {w = w64} {z = y .day .given .0 .0} (record { sfits = c .before .known-told .given .0 .1 })) (after-day s (sym (ap day (y .day .given .1)) ∙ d .date .ensures))
+    c .after-date .ensures ∙
+    rw (toZ-ofZ {w = w64} {z = y .day .given .0 .0} (record { sfits = c .before .known-told .given .0 .1 }))
+    (after-day s (sym (ap day (y .day .given .1)) ∙ d .date .ensures))
 
 returns-3 : tie.Need-returns-3
 returns-3 c =

@@ -1,10 +1,10 @@
--- `stamp::string_to_datetime` meets its contract: what is read is UTF-8. Assumes nothing.
-use Rattle.timestamp.proofs.Outcomes.{refused-in}
-use Rattle.timestamp.proofs.Agreement.{read-utf8}
-use Rattle.timestamp.specs.Answer.{momentOf, momentIs, plainMoment}
-use Rattle.refusal.specs.Outcome.{accepted}
+-- `timestamp::stamp::string_to_datetime` meets its contract: a text that is read is UTF-8, and a refusal looks at it. Assumes nothing.
 use mathlib.Core.Path.{_≡_, sym, ap, _∙_}
 use borrow.Author.Needs.{needs}
+use Rattle.refusal.specs.Outcome.{accepted}
+use Rattle.timestamp.specs.Answer.{momentOf, momentIs, plainMoment}
+use Rattle.timestamp.proofs.Outcomes.{refused-in}
+use Rattle.timestamp.proofs.Agreement.{read-utf8}
 use Rattle.timestamp.proofs.stamp.string_to_datetime.Statement.{statement}
 use Rattle.timestamp.proofs.stamp.string_to_datetime.Tie as tie
 

@@ -1,8 +1,8 @@
--- `stamp::string_to_timestamp_nanos` meets its contract. Assumes nothing.
-use Rattle.timestamp.proofs.Outcomes.{onward}
-use Rattle.timestamp.specs.Answer.{momentIs}
+-- `timestamp::stamp::string_to_timestamp_nanos` meets its contract: a moment goes on to its nanoseconds. Assumes nothing.
 use mathlib.Core.Path.{sym, ap, _∙_}
 use borrow.Author.Needs.{needs}
+use Rattle.timestamp.specs.Answer.{momentIs}
+use Rattle.timestamp.proofs.Outcomes.{onward}
 use Rattle.timestamp.proofs.stamp.string_to_timestamp_nanos.Statement.{statement}
 use Rattle.timestamp.proofs.stamp.string_to_timestamp_nanos.Tie as tie
 

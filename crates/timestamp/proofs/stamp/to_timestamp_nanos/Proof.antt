@@ -1,18 +1,20 @@
--- `stamp::to_timestamp_nanos` meets its contract, by the laws of instants. Assumes nothing.
-use Rattle.timestamp.proofs.Instants.{days-before, days-after, day-fits, time-fits, joined}
+-- `timestamp::stamp::to_timestamp_nanos` meets its contract, by the laws of a day and a time of it. Assumes nothing.
+use mathlib.Core.Path.{ap, _∙_}
+use Prim.Native.Nat.{_<_}
 use mir.Syntax.{w64}
 use mir.Val.{SFits}
-use Rattle.number.specs.Widths.{fit}
-use Prim.Native.Nat.{_<_}
-use mathlib.Core.Path.{ap, _∙_}
 use borrow.Author.Needs.{needs}
+use Rattle.number.specs.Widths.{fit}
+use Rattle.timestamp.proofs.Instants.{days-before, days-after, day-fits, time-fits, joined}
 use Rattle.timestamp.proofs.stamp.to_timestamp_nanos.Statement.{statement}
 use Rattle.timestamp.proofs.stamp.to_timestamp_nanos.Tie as tie
 
 day-in : (c : tie.After-time) → SFits w64 (c .before .before .args .dt .day)
 day-in c = record { sfits = c .before .struct-told .given .0 .1 }
 
-time-in : (c : tie.After-time) → (c .before .before .args .dt .time .secs < 4294967296) × (c .before .before .args .dt .time .frac < 4294967296)
+time-in :
+    (c : tie.After-time) →
+    (c .before .before .args .dt .time .secs < 4294967296) × (c .before .before .args .dt .time .frac < 4294967296)
 time-in c = search (c .before .struct-told .given, needs)
 
 returns : tie.Need-returns
@@ -49,7 +51,8 @@ returns-3 : tie.Need-returns-3
 returns-3 c =
     let x = c .before .before .before .before in
     let dt = x .before .before .args .dt in
-    c .nanos-of .ensures ∙ ap (fit 63) (joined (day-in x) (dt .time .secs) (dt .time .frac) (time-in x .0) (c .before .before .before .if1 .left) (c .before .before .if2 .left))
+    c .nanos-of .ensures ∙
+    ap (fit 63) (joined (day-in x) (dt .time .secs) (dt .time .frac) (time-in x .0) (c .before .before .before .if1 .left) (c .before .before .if2 .left))
 
 pub to-timestamp-nanos-spec : {M : Type 1} → statement M
 to-timestamp-nanos-spec =
