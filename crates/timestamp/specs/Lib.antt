@@ -2,3 +2,4 @@
 pub mod Clock
 pub mod Grammar
 pub mod Answer
+pub mod Meaning
