@@ -52,6 +52,15 @@ date-read (full-date y m d p q s) r =
       rest = refl
     }) d s) m q) y p
 
+-- what stands at byte 10 and after it
+pub seam : {a : List ℕ} {d : Ymd} → FullDate a d → (s : ℕ) (q : List ℕ) → (getD (a ++ (s ∷ q)) 10 0 ≡ s) × (drop 11 (a ++ (s ∷ q)) ≡ q)
+seam {a} f s q =
+    let x = date-read f (s ∷ q) in
+    (getD-at a s q 0 10 (x .size), sym (drop-drop 1 10 (a ++ (s ∷ q))) ∙ ap (drop 1) (x .rest))
+
+pub date-size : {t : List ℕ} {d : Ymd} → FullDate t d → length t ≡ 10
+date-size f = date-read f [] .size
+
 -- ---- a time is read
 
 -- what follows a time begins with no digit and no point
@@ -133,13 +142,12 @@ complete (names z (date-alone {t} f) e ok) =
 complete (names z (date-time a b n s {d} {c} f g p q) e ok) =
     let x = date-read f (s ∷ (b ++ n)) in
     let long : length (a ++ (s ∷ (b ++ n))) ≡ 10 → ⊥ = λ h. omega (arith, length-append a (s ∷ (b ++ n)), x .size) in
-    let at : getD (a ++ (s ∷ (b ++ n))) 10 0 ≡ s = getD-at a s (b ++ n) 0 10 (x .size) in
-    let after : drop 11 (a ++ (s ∷ (b ++ n))) ≡ b ++ n = sym (drop-drop 1 10 (a ++ (s ∷ (b ++ n)))) ∙ ap (drop 1) (x .rest) in
-    rw (day-read f (s ∷ (b ++ n)) z e, ne-eqb (length (a ++ (s ∷ (b ++ n)))) 10 long, at, is-separator g, after, time-read p q ok, is-ending q)
+    let y = seam f s (b ++ n) in
+    rw (day-read f (s ∷ (b ++ n)) z e, ne-eqb (length (a ++ (s ∷ (b ++ n)))) 10 long, y .0, is-separator g, y .1, time-read p q ok, is-ending q)
 
 -- ---- an accepted text is a stamp of the grammar
 
-clash {ℓ} : {X : Type ℓ} {A : Type 0} {n : ℕ} {a : A} → refused n ≡ accepted a → X
+pub clash {ℓ} : {X : Type ℓ} {A : Type 0} {n : ℕ} {a : A} → refused n ≡ accepted a → X
 clash e = let x : _≡_ {A = ℕ} 0 1 = cc in absurd (omega arith)
 
 none-some {ℓ} : {X : Type ℓ} {A : Type 0} {a : A} → none ≡ some a → X

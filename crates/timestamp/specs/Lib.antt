@@ -3,3 +3,4 @@ pub mod Clock
 pub mod Grammar
 pub mod Answer
 pub mod Meaning
+pub mod Site
