@@ -81,7 +81,7 @@ Ok c = inRange (c .hour) (c .minute) (c .second) ≡ true
 abbrev timeIs : Clock → List ℕ → Option Timed
 timeIs c e = some (record { nanos = sinceMidnight c; tail = e })
 
-all-digits : (b : ℕ) (f : List ℕ) → isDigit b ≡ true → digits f ≡ true → digits (b ∷ f) ≡ true
+pub all-digits : (b : ℕ) (f : List ℕ) → isDigit b ≡ true → digits f ≡ true → digits (b ∷ f) ≡ true
 unfolding digits
 all-digits b f p q = rw (p, q)
 

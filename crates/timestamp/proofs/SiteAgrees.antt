@@ -7,8 +7,9 @@ use mathlib.Core.List.{List, [], _∷_, _++_, append-assoc, append-nil}
 use mathlib.Core.Option.{some}
 use Prim.Native.Nat.{ℕ, suc, _+_, _-_, _≤_, _<_}
 use native.Mathlib.Omega.{arith}
+use native.Mathlib.Numerals.{sub-one}
 use lib.Dec.{eqb, leb}
-use lib.ListN.{length, getD, drop, length-append}
+use lib.ListN.{length, getD, drop, length-append, List·getD-eq-default}
 use lib.Seq.{getD-append-add, getD-at, drop-at}
 use lib.IntN.{ℤ}
 use borrow.Author.Tests.{eqb-true, eqb-false, ne-eqb, eq-eqb, le-leb, leb-true}
@@ -21,8 +22,8 @@ use Rattle.timestamp.specs.Grammar.{Figures, figures, Ymd, FullDate, Sec
 use Rattle.timestamp.specs.Answer.{twoDigits, twoAt, hasColons, moment, instant, stampNanos}
 use Rattle.timestamp.specs.Meaning.{Names, names, Reads, reads}
 use Rattle.timestamp.specs.Site.{SiteStamp, site, SiteReads, site-reads, isLeap, isSite, siteNanos}
-use Rattle.timestamp.proofs.Shapes.{by-two, two-value}
-use Rattle.timestamp.proofs.Agreement.{seam, date-size, clash, read-as}
+use Rattle.timestamp.proofs.Shapes.{by-two, two-value, not-sign}
+use Rattle.timestamp.proofs.Agreement.{seam, date-size, all-digits, clash, read-as}
 
 -- the last byte is that of what stands last
 last-of : (p q : List ℕ) → 0 < length q → getD (p ++ q) (length (p ++ q) - 1) 0 ≡ getD q (length q - 1) 0
@@ -112,3 +113,123 @@ site-test (site a h m s x f p q r u v n l) =
       y .second,
       leap-test (value 0 h) (value 0 m) (value 0 s) l,
     )
+
+-- ---- a stamp that passes the test is a site stamp
+
+no-colons : (h m r : List ℕ) → Figures 2 h → Figures 2 m → hasColons (h ++ (m ++ r)) ≡ false
+no-colons h m r p q =
+    by-two (λ h. hasColons (h ++ (m ++ r)) ≡ false)
+    (λ a b fa fb. by-two (λ m. hasColons (a ∷ b ∷ (m ++ r)) ≡ false) (λ c d fc fd. rw (not-sign c 0x3A fc (inr (omega arith)), fa, fb)) m q)
+    h p
+
+-- the last of some digits
+last-digit : (b : ℕ) (f : List ℕ) → digits (b ∷ f) ≡ true → isDigit (getD (b ∷ f) (length (b ∷ f) - 1) 0) ≡ true
+unfolding digits
+last-digit b [] e = and-left (isDigit b) true e
+last-digit b (c ∷ f) e = rw sub-one (rw sub-one at (last-digit c f (and-right (isDigit b) (digits (c ∷ f)) e)))
+
+last-figure : {n : ℕ} {t : List ℕ} → Figures (suc n) t → isDigit (getD t (length t - 1) 0) ≡ true
+last-figure {n} {t} (figures h e) = by t h e
+  where
+    by : (t : List ℕ) → length t ≡ suc n → digits t ≡ true → isDigit (getD t (length t - 1) 0) ≡ true
+    by [] h e = absurd (omega arith)
+    by (b ∷ t) h e = last-digit b t e
+
+-- the tests, one by one
+record Passed (t : List ℕ) : Type 0 where
+  separator : eqb (getD t 10 0) 0x54 ≡ true
+  colon : hasColons (drop 11 t) ≡ true
+  short : length t ≤ 30
+  last : eqb (getD t (length t - 1) 0) 0x5A ≡ true
+  leap : isLeap (twoAt (drop 11 t) 0) (twoAt (drop 11 t) 3) (twoAt (drop 11 t) 6) ≡ true
+
+passed : (t : List ℕ) → isSite t ≡ true → Passed t
+unfolding isSite
+passed t e =
+    let z : Bool = isLeap (twoAt (drop 11 t) 0) (twoAt (drop 11 t) 3) (twoAt (drop 11 t) 6) in
+    let y : Bool = eqb (getD t (length t - 1) 0) 0x5A in
+    let p = and-right (eqb (getD t 10 0) 0x54) (hasColons (drop 11 t) && (leb (length t) 30 && (y && z))) e in
+    let q = and-right (hasColons (drop 11 t)) (leb (length t) 30 && (y && z)) p in
+    let r = and-right (leb (length t) 30) (y && z) q in
+    record {
+      separator = and-left (eqb (getD t 10 0) 0x54) (hasColons (drop 11 t) && (leb (length t) 30 && (y && z))) e;
+      colon = and-left (hasColons (drop 11 t)) (leb (length t) 30 && (y && z)) p;
+      short = leb-true (length t) 30 (and-left (leb (length t) 30) (y && z) q);
+      last = and-left y z r;
+      leap = and-right y z r
+    }
+
+-- seconds and perhaps a fraction end with a digit
+seconds-end : {s x f : List ℕ} → Figures 2 s → Secfrac x f → isDigit (getD (s ++ x) (length (s ++ x) - 1) 0) ≡ true
+seconds-end {s} u no-fraction = rw append-nil (last-figure u)
+seconds-end {s} u (fraction {b} {f} p q) =
+    rw (last-of s (0x2E ∷ b ∷ f) (omega arith), last-of (0x2E ∷ []) (b ∷ f) (omega arith)) (last-digit b f (all-digits b f p q))
+
+-- and so does a stamp with colons and no ending
+open-end : {a s x f : List ℕ} {d : Ymd} (h m : List ℕ) (b : ℕ) → FullDate a d → Figures 2 s → Secfrac x f → isDigit (getD (a ++ (b ∷ (h ++ (0x3A ∷ (m ++ (0x3A ∷ (s ++ x))))))) (length (a ++ (b ∷ (h ++ (0x3A ∷ (m ++ (0x3A ∷ (s ++ x))))))) - 1) 0) ≡ true
+open-end {a} {s} {x} h m b p u v =
+    let two : 0 < length (s ++ x) = omega (arith, length-append s x, size-of u) in
+    let q : 0 < length (m ++ (0x3A ∷ (s ++ x))) = omega (arith, length-append m (0x3A ∷ (s ++ x))) in
+    let r : 0 < length (h ++ (0x3A ∷ (m ++ (0x3A ∷ (s ++ x))))) = omega (arith, length-append h (0x3A ∷ (m ++ (0x3A ∷ (s ++ x))))) in
+    subst (λ (y : ℕ). isDigit y ≡ true)
+    (sym
+    (last-of a (b ∷ (h ++ (0x3A ∷ (m ++ (0x3A ∷ (s ++ x)))))) (omega arith) ∙
+    last-of (b ∷ []) (h ++ (0x3A ∷ (m ++ (0x3A ∷ (s ++ x))))) r ∙
+    last-of h (0x3A ∷ (m ++ (0x3A ∷ (s ++ x)))) (omega arith) ∙
+    last-of (0x3A ∷ []) (m ++ (0x3A ∷ (s ++ x))) q ∙
+    last-of m (0x3A ∷ (s ++ x)) (omega arith) ∙
+    last-of (0x3A ∷ []) (s ++ x) two))
+    (seconds-end u v)
+
+site-time : {a b n : List ℕ} {d : Ymd} {c : Clock} (s : ℕ) → FullDate a d → PartialTime b c → Ending n → Passed (a ++ (s ∷ (b ++ n))) → SiteStamp (a ++ (s ∷ (b ++ n))) d c
+site-time {a} {d = d} k p (colons h m s x f q r u v) none-given y =
+    both-ways (eqb (getD t (length t - 1) 0) 0x5A) (not-sign (getD t (length t - 1) 0) 0x5A (rw append-nil (open-end h m k p u v)) (inr (omega arith))) (y .last)
+  where
+    t : List ℕ
+    t = a ++ (k ∷ ((h ++ (0x3A ∷ (m ++ (0x3A ∷ (s ++ x))))) ++ []))
+site-time {a} {d = d} k p (colons h m s x f q r u v) small-z y =
+    absurd (false≢true (rw (end-with p q r u v k 0x7A) at (y .last)))
+site-time {a} {d = d} k p (colons h m s x f q r u v) capital-z y =
+    let w = tests p q r u v k (0x5A ∷ []) in
+    let e : k ≡ 0x54 = eqb-true k 0x54 (rw (seam p k ((h ++ (0x3A ∷ (m ++ (0x3A ∷ (s ++ x))))) ++ (0x5A ∷ [])) .0) at (y .separator)) in
+    rw e (site a h m s x f p q r u v
+    (omega (arith, y .short, size p q r u v k (0x5A ∷ []), secfrac-size v))
+    (leap-fact (value 0 h) (value 0 m) (value 0 s) (rw (w .hour, w .minute, w .second) at (y .leap))))
+site-time {a} {n = n} k p (basic h m s q r u) e y =
+    both-ways (hasColons (drop 11 (a ++ (k ∷ ((h ++ (m ++ s)) ++ n))))) (rw (seam p k ((h ++ (m ++ s)) ++ n) .1, whole) (no-colons h m (s ++ n) q r)) (y .colon)
+  where
+    whole : (h ++ (m ++ s)) ++ n ≡ h ++ (m ++ (s ++ n))
+    whole = simp append-assoc
+
+site-of : {t : List ℕ} {d : Ymd} {c : Clock} → Stamp t d c → isSite t ≡ true → SiteStamp t d c
+site-of (date-alone {t} f) e =
+    absurd (false≢true (rw (List·getD-eq-default t 0 {n = 10} (omega (arith, date-size f))) at (passed t e .separator)))
+site-of (date-time a b n s f g p q) e = site-time s f p q (passed (a ++ (s ∷ (b ++ n))) e)
+
+-- ---- the theorems
+
+-- a text is a site stamp and read as a number of nanoseconds exactly where it is accepted with that number
+pub agrees : (t : List ℕ) (z : ℤ) → SiteReads t z ↔ (siteNanos t ≡ accepted z)
+agrees t z = (into, back (stampNanos t) refl)
+  where
+    into : {z : ℤ} → SiteReads t z → siteNanos t ≡ accepted z
+    into (site-reads {d = d} {c = c} y s e ok fits) =
+        rw (read-as t (instant (moment y (sinceMidnight c))) .0 (reads (moment y (sinceMidnight c)) (names y (is-plain s) e ok) fits), site-test s)
+
+    from : {z : ℤ} → isSite t ≡ true → Reads t z → SiteReads t z
+    from s (reads m (names y p e ok) fits) = site-reads y (site-of p s) e ok fits
+
+    back : (o : Outcome ℤ) → stampNanos t ≡ o → andThen o (λ y. cond (isSite t) (accepted y) (refused 12)) ≡ accepted z → SiteReads t z
+    back (accepted y) p e =
+        by-test (isSite t)
+        (λ s. let q : accepted y ≡ accepted z = rw s at e in let v : y ≡ z = cc in from s (read-as t z .1 (p ∙ ap accepted v)))
+        (λ s. clash (rw s at e))
+    back (refused n) p e = clash e
+
+-- its value is the plain reader's
+pub plain-value : (t : List ℕ) (z : ℤ) → siteNanos t ≡ accepted z → stampNanos t ≡ accepted z
+plain-value t z = by (stampNanos t)
+  where
+    by : (o : Outcome ℤ) → andThen o (λ y. cond (isSite t) (accepted y) (refused 12)) ≡ accepted z → o ≡ accepted z
+    by (accepted y) e = by-test (isSite t) (λ s. rw s at e) (λ s. clash (rw s at e))
+    by (refused n) e = clash e
