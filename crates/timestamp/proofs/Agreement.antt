@@ -23,7 +23,7 @@ use Rattle.timestamp.specs.Clock.{Clock, clock, inRange, nanosFrom, nano
 use Rattle.timestamp.specs.Grammar.{Figures, figures, Ymd, FullDate, full-date, Secfrac, no-fraction, fraction, PartialTime, colons, basic, Separator, capital, small, space, Ending, none-given, capital-z, small-z, Stamp, date-alone, date-time}
 use Rattle.timestamp.specs.Answer.{twoDigits, twoAt, isDate, dayOf, hasColons, isBasic, Timed, timedAt, timed, withFraction, afterSeconds, basicTime, timeOf, isEnding, isSeparator, Moment, moment, instant, atEnd, onTime, afterDate, onDate, plainMoment, datetime, inNanos, stampNanos}
 use Rattle.timestamp.specs.Meaning.{Rfc3339, utc, Names, names, Reads, reads}
-use Rattle.timestamp.proofs.Shapes.{by-two, by-four, two-figures, four-figures, two-value, four-value, inside, not-sign, run-all, run-digits, six, eight, ten}
+use Rattle.timestamp.proofs.Shapes.{all-digits, by-two, by-four, two-figures, four-figures, two-value, four-value, inside, not-sign, run-all, run-digits, six, eight, ten}
 
 -- ---- a date is read
 
@@ -80,10 +80,6 @@ Ok c = inRange (c .hour) (c .minute) (c .second) ≡ true
 
 abbrev timeIs : Clock → List ℕ → Option Timed
 timeIs c e = some (record { nanos = sinceMidnight c; tail = e })
-
-pub all-digits : (b : ℕ) (f : List ℕ) → isDigit b ≡ true → digits f ≡ true → digits (b ∷ f) ≡ true
-unfolding digits
-all-digits b f p q = rw (p, q)
 
 fraction-read : (h m s : ℕ) {x f : List ℕ} → Secfrac x f → {e : List ℕ} → Ending e → inRange h m s ≡ true → afterSeconds h m s (x ++ e) ≡ timeIs (clock h m s f) e
 fraction-read h m s no-fraction {e} n ok = rw (ending-first n .1, ok)
@@ -150,7 +146,7 @@ complete (names z (date-time a b n s {d} {c} f g p q) e ok) =
 pub clash {ℓ} : {X : Type ℓ} {A : Type 0} {n : ℕ} {a : A} → refused n ≡ accepted a → X
 clash e = let x : _≡_ {A = ℕ} 0 1 = cc in absurd (omega arith)
 
-none-some {ℓ} : {X : Type ℓ} {A : Type 0} {a : A} → none ≡ some a → X
+pub none-some {ℓ} : {X : Type ℓ} {A : Type 0} {a : A} → none ≡ some a → X
 none-some e = let x : _≡_ {A = ℕ} 0 1 = cc in absurd (omega arith)
 
 record DateIs (t : List ℕ) (z : ℤ) : Type 0 where
@@ -162,7 +158,7 @@ record DateIs (t : List ℕ) (z : ℤ) : Type 0 where
   named : civil (pos (date .year)) (date .month) (date .day) ≡ some z
 
 -- both parts of a test
-both : (x y : Bool) → x && y ≡ true → (x ≡ true) × (y ≡ true)
+pub both : (x y : Bool) → x && y ≡ true → (x ≡ true) × (y ≡ true)
 both x y e = (and-left x y e, and-right x y e)
 
 date-sound : (t : List ℕ) (z : ℤ) → isDate t ≡ true → civil (pos (twoAt t 0 * 100 + twoAt t 2)) (twoAt t 5) (twoAt t 8) ≡ some z → DateIs t z
@@ -348,14 +344,14 @@ sound t m e =
 
 -- ---- stamps are ASCII
 
-ascii-figures : {n : ℕ} {t : List ℕ} → Figures n t → ascii t ≡ true
+pub ascii-figures : {n : ℕ} {t : List ℕ} → Figures n t → ascii t ≡ true
 ascii-figures {n} {t} (figures h e) = ascii-digits t e
 
 ascii-date : {t : List ℕ} {d : Ymd} → FullDate t d → ascii t ≡ true
 ascii-date (full-date y m d p q r) =
     ascii-append y _ (ascii-figures p) (ascii-cons 0x2D _ (lit< tt) (ascii-append m _ (ascii-figures q) (ascii-cons 0x2D d (lit< tt) (ascii-figures r))))
 
-ascii-secfrac : {x f : List ℕ} → Secfrac x f → ascii x ≡ true
+pub ascii-secfrac : {x f : List ℕ} → Secfrac x f → ascii x ≡ true
 ascii-secfrac no-fraction = ascii-nil
 ascii-secfrac (fraction {b} {f} p q) = ascii-cons 0x2E (b ∷ f) (lit< tt) (ascii-digits (b ∷ f) (all-digits b f p q))
 

@@ -1,17 +1,19 @@
 -- The shapes of a stamp, byte by byte: what the relations of the grammar say of each place of a text, and what the tests of the
 -- places say of the grammar. Assumes nothing.
-use mathlib.Core.Path.{_≡_, refl, ap}
+use mathlib.Core.Path.{_≡_, refl, ap, _∙_}
 use mathlib.Core.Bool.{true, false}
 use mathlib.Core.Logic.{_⊎_, ⊎-elim}
-use mathlib.Core.List.{List, [], _∷_, _++_}
-use Prim.Native.Nat.{ℕ, suc, _+_, _*_, _<_}
+use mathlib.Core.List.{List, [], _∷_, _++_, append-nil}
+use Prim.Native.Nat.{ℕ, suc, _+_, _-_, _*_, _<_}
 use native.Mathlib.Omega.{arith}
+use native.Mathlib.Numerals.{sub-one}
 use lib.Dec.{ltb, eqb}
-use lib.ListN.{length, getD, take, drop, List·getD-eq-default}
+use lib.ListN.{length, getD, take, drop, length-append, List·getD-eq-default}
+use lib.Seq.{getD-append-add}
 use borrow.Author.Tests.{ltb-true, ltb-false, ne-eqb}
 use Rattle.text.specs.Digits.{isDigit, worth, digits, value, run}
 use Rattle.text.proofs.Bools.{and-left, and-right, by-test, both-ways, within-is}
-use Rattle.timestamp.specs.Grammar.{Figures, figures}
+use Rattle.timestamp.specs.Grammar.{Figures, figures, Secfrac, no-fraction, fraction}
 
 -- ---- numbers of two and of four digits
 
@@ -19,7 +21,15 @@ digits-head : (b : ℕ) (t : List ℕ) → digits (b ∷ t) ≡ true → (isDigi
 unfolding digits
 digits-head b t e = (and-left (isDigit b) (digits t) e, and-right (isDigit b) (digits t) e)
 
--- what holds of every two digits holds of a number of two digits
+-- what holds of every digit holds of a number of one digit, and so on
+pub by-one : (P : List ℕ → Type 0) → ((a : ℕ) → isDigit a ≡ true → P (a ∷ [])) → (t : List ℕ) → Figures 1 t → P t
+by-one P f t (figures h e) = by t h e
+  where
+    by : (t : List ℕ) → length t ≡ 1 → digits t ≡ true → P t
+    by [] h e = absurd (omega arith)
+    by (a ∷ []) h e = f a (digits-head a [] e .0)
+    by (a ∷ b ∷ t) h e = absurd (omega arith)
+
 pub by-two : (P : List ℕ → Type 0) → ((a b : ℕ) → isDigit a ≡ true → isDigit b ≡ true → P (a ∷ b ∷ [])) → (t : List ℕ) → Figures 2 t → P t
 by-two P f t (figures h e) = by t h e
   where
@@ -45,6 +55,10 @@ by-four P f t (figures h e) = by t h e
     by (a ∷ b ∷ c ∷ d ∷ g ∷ t) h e = absurd (omega arith)
 
 -- and the other way round
+pub one-figure : (a : ℕ) → isDigit a ≡ true → Figures 1 (a ∷ [])
+unfolding digits
+one-figure a p = figures {t = a ∷ []} refl (rw p)
+
 pub two-figures : (a b : ℕ) → isDigit a ≡ true → isDigit b ≡ true → Figures 2 (a ∷ b ∷ [])
 unfolding digits
 two-figures a b p q = figures {t = a ∷ b ∷ []} refl (rw (p, q))
@@ -54,6 +68,10 @@ unfolding digits
 four-figures a b c d p q r s = figures {t = a ∷ b ∷ c ∷ d ∷ []} refl (rw (p, q, r, s))
 
 -- their numbers
+pub one-value : (a : ℕ) → value 0 (a ∷ []) ≡ worth a
+unfolding value
+one-value a = omega arith
+
 pub two-value : (a b : ℕ) → value 0 (a ∷ b ∷ []) ≡ worth a * 10 + worth b
 unfolding value
 two-value a b = omega arith
@@ -85,6 +103,38 @@ pub run-digits : (t : List ℕ) → digits (take (run t) t) ≡ true
 unfolding run digits
 run-digits [] = refl
 run-digits (b ∷ t) = by-test (isDigit b) (λ e. rw e (rw e (run-digits t))) (λ e. rw e)
+
+-- ---- the last byte
+
+-- the last byte is that of what stands last
+pub last-of : (p q : List ℕ) → 0 < length q → getD (p ++ q) (length (p ++ q) - 1) 0 ≡ getD q (length q - 1) 0
+last-of p q h = ap (λ (n : ℕ). getD (p ++ q) n 0) (omega (arith, length-append p q)) ∙ getD-append-add p q (length q - 1) 0
+
+pub size-of : {n : ℕ} {t : List ℕ} → Figures n t → length t ≡ n
+size-of (figures h e) = h
+
+pub all-digits : (b : ℕ) (f : List ℕ) → isDigit b ≡ true → digits f ≡ true → digits (b ∷ f) ≡ true
+unfolding digits
+all-digits b f p q = rw (p, q)
+
+-- the last of some digits
+pub last-digit : (b : ℕ) (f : List ℕ) → digits (b ∷ f) ≡ true → isDigit (getD (b ∷ f) (length (b ∷ f) - 1) 0) ≡ true
+unfolding digits
+last-digit b [] e = and-left (isDigit b) true e
+last-digit b (c ∷ f) e = rw sub-one (rw sub-one at (last-digit c f (and-right (isDigit b) (digits (c ∷ f)) e)))
+
+pub last-figure : {n : ℕ} {t : List ℕ} → Figures (suc n) t → isDigit (getD t (length t - 1) 0) ≡ true
+last-figure {n} {t} (figures h e) = by t h e
+  where
+    by : (t : List ℕ) → length t ≡ suc n → digits t ≡ true → isDigit (getD t (length t - 1) 0) ≡ true
+    by [] h e = absurd (omega arith)
+    by (b ∷ t) h e = last-digit b t e
+
+-- seconds and perhaps a fraction end with a digit
+pub seconds-end : {s x f : List ℕ} → Figures 2 s → Secfrac x f → isDigit (getD (s ++ x) (length (s ++ x) - 1) 0) ≡ true
+seconds-end {s} u no-fraction = rw append-nil (last-figure u)
+seconds-end {s} u (fraction {b} {f} p q) =
+    rw (last-of s (0x2E ∷ b ∷ f) (omega arith), last-of (0x2E ∷ []) (b ∷ f) (omega arith)) (last-digit b f (all-digits b f p q))
 
 -- ---- a text by its first bytes
 

@@ -22,12 +22,8 @@ use Rattle.timestamp.specs.Grammar.{Figures, figures, Ymd, FullDate, Sec
 use Rattle.timestamp.specs.Answer.{twoDigits, twoAt, hasColons, moment, instant, stampNanos}
 use Rattle.timestamp.specs.Meaning.{Names, names, Reads, reads}
 use Rattle.timestamp.specs.Site.{SiteStamp, site, SiteReads, site-reads, isLeap, isSite, siteNanos}
-use Rattle.timestamp.proofs.Shapes.{by-two, two-value, not-sign}
-use Rattle.timestamp.proofs.Agreement.{seam, date-size, all-digits, clash, read-as}
-
--- the last byte is that of what stands last
-last-of : (p q : List ℕ) → 0 < length q → getD (p ++ q) (length (p ++ q) - 1) 0 ≡ getD q (length q - 1) 0
-last-of p q h = ap (λ (n : ℕ). getD (p ++ q) n 0) (omega (arith, length-append p q)) ∙ getD-append-add p q (length q - 1) 0
+use Rattle.timestamp.proofs.Shapes.{by-two, two-value, not-sign, size-of, last-of, seconds-end}
+use Rattle.timestamp.proofs.Agreement.{seam, date-size, clash, read-as}
 
 -- ---- a site stamp is a stamp, and passes the test
 
@@ -49,9 +45,6 @@ time-tests h m s r p q u =
     (λ c d fc fd.
     by-two (λ s. TimeTests (a ∷ b ∷ 0x3A ∷ c ∷ d ∷ 0x3A ∷ (s ++ r)) (value 0 (a ∷ b ∷ [])) (value 0 (c ∷ d ∷ [])) (value 0 s))
     (λ g i fg fi. record { shape = rw (fa, fb, fc, fd, fg, fi); hour = sym (two-value a b); minute = sym (two-value c d); second = sym (two-value g i) }) s u) m q) h p
-
-size-of : {n : ℕ} {t : List ℕ} → Figures n t → length t ≡ n
-size-of (figures h e) = h
 
 secfrac-size : {x f : List ℕ} → Secfrac x f → (length x ≤ length f + 1) × (length f ≤ length x - 1)
 secfrac-size no-fraction = omega arith
@@ -122,19 +115,6 @@ no-colons h m r p q =
     (λ a b fa fb. by-two (λ m. hasColons (a ∷ b ∷ (m ++ r)) ≡ false) (λ c d fc fd. rw (not-sign c 0x3A fc (inr (omega arith)), fa, fb)) m q)
     h p
 
--- the last of some digits
-last-digit : (b : ℕ) (f : List ℕ) → digits (b ∷ f) ≡ true → isDigit (getD (b ∷ f) (length (b ∷ f) - 1) 0) ≡ true
-unfolding digits
-last-digit b [] e = and-left (isDigit b) true e
-last-digit b (c ∷ f) e = rw sub-one (rw sub-one at (last-digit c f (and-right (isDigit b) (digits (c ∷ f)) e)))
-
-last-figure : {n : ℕ} {t : List ℕ} → Figures (suc n) t → isDigit (getD t (length t - 1) 0) ≡ true
-last-figure {n} {t} (figures h e) = by t h e
-  where
-    by : (t : List ℕ) → length t ≡ suc n → digits t ≡ true → isDigit (getD t (length t - 1) 0) ≡ true
-    by [] h e = absurd (omega arith)
-    by (b ∷ t) h e = last-digit b t e
-
 -- the tests, one by one
 record Passed (t : List ℕ) : Type 0 where
   separator : eqb (getD t 10 0) 0x54 ≡ true
@@ -158,12 +138,6 @@ passed t e =
       last = and-left y z r;
       leap = and-right y z r
     }
-
--- seconds and perhaps a fraction end with a digit
-seconds-end : {s x f : List ℕ} → Figures 2 s → Secfrac x f → isDigit (getD (s ++ x) (length (s ++ x) - 1) 0) ≡ true
-seconds-end {s} u no-fraction = rw append-nil (last-figure u)
-seconds-end {s} u (fraction {b} {f} p q) =
-    rw (last-of s (0x2E ∷ b ∷ f) (omega arith), last-of (0x2E ∷ []) (b ∷ f) (omega arith)) (last-digit b f (all-digits b f p q))
 
 -- and so does a stamp with colons and no ending
 open-end : {a s x f : List ℕ} {d : Ymd} (h m : List ℕ) (b : ℕ) → FullDate a d → Figures 2 s → Secfrac x f → isDigit (getD (a ++ (b ∷ (h ++ (0x3A ∷ (m ++ (0x3A ∷ (s ++ x))))))) (length (a ++ (b ∷ (h ++ (0x3A ∷ (m ++ (0x3A ∷ (s ++ x))))))) - 1) 0) ≡ true
