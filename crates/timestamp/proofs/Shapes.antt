@@ -17,7 +17,7 @@ use Rattle.timestamp.specs.Grammar.{Figures, figures, Secfrac, no-fracti
 
 -- ---- numbers of two and of four digits
 
-digits-head : (b : ℕ) (t : List ℕ) → digits (b ∷ t) ≡ true → (isDigit b ≡ true) × (digits t ≡ true)
+pub digits-head : (b : ℕ) (t : List ℕ) → digits (b ∷ t) ≡ true → (isDigit b ≡ true) × (digits t ≡ true)
 unfolding digits
 digits-head b t e = (and-left (isDigit b) (digits t) e, and-right (isDigit b) (digits t) e)
 
