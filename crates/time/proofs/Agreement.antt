@@ -164,7 +164,7 @@ module _ (p : Half) (h : List ℕ) (hh : Hour h) where
         second = value 0 (c ∷ d ∷ []);
         behind = y .behind;
         written = seconds h (a ∷ b ∷ []) (c ∷ d ∷ []) x (y .behind) hh (two-figures a b fa fb) (two-figures c d fc fd) (y .point);
-        value-is = rw (two-value a b, two-value c d, y .nanos) e
+        value-is = rw (two-value a b, two-value c d, y .nanos) e;
       }
 
   after-minutes-sound : (a b : ℕ) (r : List ℕ) (n : ℕ) → isDigit a ≡ true → isDigit b ≡ true → afterMinutes p (value 0 h) (worth a * 10 + worth b) r ≡ some n → Found p (h ++ (0x3A ∷ a ∷ b ∷ r)) n
@@ -176,7 +176,7 @@ module _ (p : Half) (h : List ℕ) (hh : Hour h) where
         second = 0;
         behind = [];
         written = minutes h (a ∷ b ∷ []) hh (two-figures a b fa fb);
-        value-is = rw (two-value a b) e
+        value-is = rw (two-value a b) e;
       }
   after-minutes-sound a b (k ∷ []) n fa fb e = none-some (rw (and-false (eqb k 0x3A)) at e)
   after-minutes-sound a b (k ∷ c ∷ []) n fa fb e = none-some (rw (and-false (isDigit c), and-false (eqb k 0x3A)) at e)

@@ -49,7 +49,7 @@ date-read (full-date y m d p q s) r =
       month = sym (two-value g h);
       day = sym (two-value i j);
       size = refl;
-      rest = refl
+      rest = refl;
     }) d s) m q) y p
 
 -- what stands at byte 10 and after it
@@ -178,7 +178,7 @@ date-sound t z e n =
       full = full-date (getD t 0 0 ∷ getD t 1 0 ∷ getD t 2 0 ∷ getD t 3 0 ∷ []) (getD t 5 0 ∷ getD t 6 0 ∷ []) (getD t 8 0 ∷ getD t 9 0 ∷ []) (four-figures (getD t 0 0) (getD t 1 0) (getD t 2 0) (getD t 3 0) (y1 .0) (y1 .1) (y2 .0) (y2 .1)) (two-figures (getD t 5 0) (getD t 6 0) (m .0) (m .1)) (two-figures (getD t 8 0) (getD t 9 0) (d .0) (d .1));
       text = rw (eqb-true (getD t 4 0) 0x2D (r .0), eqb-true (getD t 7 0) 0x2D (u .0)) at (ten t (inside t 9 (d .1)));
       size = refl;
-      named = rw (four-value (getD t 0 0) (getD t 1 0) (getD t 2 0) (getD t 3 0), two-value (getD t 5 0) (getD t 6 0), two-value (getD t 8 0) (getD t 9 0)) n
+      named = rw (four-value (getD t 0 0) (getD t 1 0) (getD t 2 0) (getD t 3 0), two-value (getD t 5 0) (getD t 6 0), two-value (getD t 8 0) (getD t 9 0)) n;
     }
 
 record TimeIs (t : List ℕ) (x : Timed) : Type 0 where
@@ -233,7 +233,7 @@ module _ (a b c d g i : ℕ) (fa : isDigit a ≡ true) (fb : isDigit b ≡ true)
         time = colons (a ∷ b ∷ []) (c ∷ d ∷ []) (g ∷ i ∷ []) (0x2E ∷ take (run u) u) (take (run u) u) (two-figures a b fa fb) (two-figures c d fc fd) (two-figures g i fg fi) (secfrac-of u (eqb-false (run u) 0 q));
         text = ap (λ (v : List ℕ). a ∷ b ∷ 0x3A ∷ c ∷ d ∷ 0x3A ∷ g ∷ i ∷ v) (point-first r p ∙ ap (λ (v : List ℕ). 0x2E ∷ v) (sym (take-append-drop (run u) u)));
         ok = worth-ok (y .0) (take (run u) u);
-        nanos = worth-nanos (take (run u) u)
+        nanos = worth-nanos (take (run u) u);
       })))
       (λ p.
       let y = in-range (twoAt (a ∷ b ∷ []) 0) (twoAt (c ∷ d ∷ []) 0) (twoAt (g ∷ i ∷ []) 0) (nanosOf []) r x (rw p at e) in
@@ -243,7 +243,7 @@ module _ (a b c d g i : ℕ) (fa : isDigit a ≡ true) (fb : isDigit b ≡ true)
         time = colons (a ∷ b ∷ []) (c ∷ d ∷ []) (g ∷ i ∷ []) [] [] (two-figures a b fa fb) (two-figures c d fc fd) (two-figures g i fg fi) no-fraction;
         text = refl;
         ok = worth-ok (y .0) [];
-        nanos = worth-nanos []
+        nanos = worth-nanos [];
       }))
 
   basic-sound : (r : List ℕ) (x : Timed) → timed (twoAt (a ∷ b ∷ []) 0) (twoAt (c ∷ d ∷ []) 0) (twoAt (g ∷ i ∷ []) 0) [] r ≡ some x → TimeIs (a ∷ b ∷ c ∷ d ∷ g ∷ i ∷ r) x
@@ -255,7 +255,7 @@ module _ (a b c d g i : ℕ) (fa : isDigit a ≡ true) (fb : isDigit b ≡ true)
         time = basic (a ∷ b ∷ []) (c ∷ d ∷ []) (g ∷ i ∷ []) (two-figures a b fa fb) (two-figures c d fc fd) (two-figures g i fg fi);
         text = refl;
         ok = worth-ok (y .0) [];
-        nanos = worth-nanos []
+        nanos = worth-nanos [];
       })
 
 time-sound : (t : List ℕ) (x : Timed) → timeOf t ≡ some x → TimeIs t x
@@ -317,7 +317,7 @@ module _ (t : List ℕ) (z : ℤ) (x : DateIs t z) (m : Moment) where
       let v : moment z (sinceMidnight (k .fields)) ≡ m = cc (k .nanos) in
       let long : 10 < length t = omega (arith, ap length (x .text), length-append (x .bytes) (drop 10 t), x .size) in
       let w : t ≡ x .bytes ++ (getD t 10 0 ∷ (k .bytes ++ y .tail)) =
-          x .text ∙ ap (λ (r : List ℕ). x .bytes ++ r) (drop-cons t 10 0 long ∙ ap (λ (r : List ℕ). getD t 10 0 ∷ r) (k .text)) in
+      x .text ∙ ap (λ (r : List ℕ). x .bytes ++ r) (drop-cons t 10 0 long ∙ ap (λ (r : List ℕ). getD t 10 0 ∷ r) (k .text)) in
       subst (λ (u : List ℕ). Names u m) (sym w)
       (rw (← v) (names z (date-time (x .bytes) (k .bytes) (y .tail) (getD t 10 0) (x .full) (separator-sound (getD t 10 0) s) (k .time) (ending-sound (y .tail) n)) (x .named) (k .ok))))
       (λ n. clash (rw n at e))

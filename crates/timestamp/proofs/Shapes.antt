@@ -1,6 +1,6 @@
 -- The shapes of a stamp, byte by byte: what the relations of the grammar say of each place of a text, and what the tests of the
 -- places say of the grammar. Assumes nothing.
-use mathlib.Core.Path.{_≡_, refl, ap, _∙_}
+use mathlib.Core.Path.{_≡_, refl, sym, ap, _∙_}
 use mathlib.Core.Bool.{true, false}
 use mathlib.Core.Logic.{_⊎_, ⊎-elim}
 use mathlib.Core.List.{List, [], _∷_, _++_, append-nil}
@@ -10,7 +10,7 @@ use native.Mathlib.Numerals.{sub-one}
 use lib.Dec.{ltb, eqb}
 use lib.ListN.{length, getD, take, drop, length-append, List·getD-eq-default}
 use lib.Seq.{getD-append-add}
-use borrow.Author.Tests.{ltb-true, ltb-false, ne-eqb}
+use borrow.Author.Tests.{ltb-true, ltb-false, eqb-true, ne-eqb}
 use Rattle.text.specs.Digits.{isDigit, worth, digits, value, run}
 use Rattle.text.proofs.Bools.{and-left, and-right, by-test, both-ways, within-is}
 use Rattle.timestamp.specs.Grammar.{Figures, figures, Secfrac, no-fraction, fraction}
@@ -87,6 +87,12 @@ inside t i e =
     by-test (ltb i (length t)) (ltb-true i (length t))
     (λ h. both-ways (isDigit (getD t i 0)) (rw (List·getD-eq-default t 0 {n = i} (ltb-false i (length t) h))) e)
 
+-- a sign that is tested for stands within the text too
+pub sign-inside : (t : List ℕ) (i c : ℕ) → eqb (getD t i 0) (suc c) ≡ true → i < length t
+sign-inside t i c e =
+    by-test (ltb i (length t)) (ltb-true i (length t))
+    (λ h. let z : 0 ≡ suc c = sym (List·getD-eq-default t 0 {n = i} (ltb-false i (length t) h)) ∙ eqb-true (getD t i 0) (suc c) e in absurd (omega arith))
+
 pub not-sign : (b c : ℕ) → isDigit b ≡ true → (c < 0x30) ⊎ (0x39 < c) → eqb b c ≡ false
 not-sign b c e h = ne-eqb b c (λ q. let w = within-is 0x30 b 0x39 e in ⊎-elim (λ l. omega arith) (λ l. omega arith) h)
 
@@ -138,17 +144,6 @@ seconds-end {s} u (fraction {b} {f} p q) =
 
 -- ---- a text by its first bytes
 
-pub eight : (t : List ℕ) → 7 < length t → t ≡ getD t 0 0 ∷ getD t 1 0 ∷ getD t 2 0 ∷ getD t 3 0 ∷ getD t 4 0 ∷ getD t 5 0 ∷ getD t 6 0 ∷ getD t 7 0 ∷ drop 8 t
-eight [] h = absurd (omega arith)
-eight (a ∷ []) h = absurd (omega arith)
-eight (a ∷ b ∷ []) h = absurd (omega arith)
-eight (a ∷ b ∷ c ∷ []) h = absurd (omega arith)
-eight (a ∷ b ∷ c ∷ d ∷ []) h = absurd (omega arith)
-eight (a ∷ b ∷ c ∷ d ∷ e ∷ []) h = absurd (omega arith)
-eight (a ∷ b ∷ c ∷ d ∷ e ∷ f ∷ []) h = absurd (omega arith)
-eight (a ∷ b ∷ c ∷ d ∷ e ∷ f ∷ g ∷ []) h = absurd (omega arith)
-eight (a ∷ b ∷ c ∷ d ∷ e ∷ f ∷ g ∷ i ∷ t) h = refl
-
 pub six : (t : List ℕ) → 5 < length t → t ≡ getD t 0 0 ∷ getD t 1 0 ∷ getD t 2 0 ∷ getD t 3 0 ∷ getD t 4 0 ∷ getD t 5 0 ∷ drop 6 t
 six [] h = absurd (omega arith)
 six (a ∷ []) h = absurd (omega arith)
@@ -157,6 +152,14 @@ six (a ∷ b ∷ c ∷ []) h = absurd (omega arith)
 six (a ∷ b ∷ c ∷ d ∷ []) h = absurd (omega arith)
 six (a ∷ b ∷ c ∷ d ∷ e ∷ []) h = absurd (omega arith)
 six (a ∷ b ∷ c ∷ d ∷ e ∷ f ∷ t) h = refl
+
+pub seven : (t : List ℕ) → 6 < length t → t ≡ getD t 0 0 ∷ getD t 1 0 ∷ getD t 2 0 ∷ getD t 3 0 ∷ getD t 4 0 ∷ getD t 5 0 ∷ getD t 6 0 ∷ drop 7 t
+seven [] h = absurd (omega arith)
+seven (a ∷ t) h = ap (λ (r : List ℕ). a ∷ r) (six t (omega arith))
+
+pub eight : (t : List ℕ) → 7 < length t → t ≡ getD t 0 0 ∷ getD t 1 0 ∷ getD t 2 0 ∷ getD t 3 0 ∷ getD t 4 0 ∷ getD t 5 0 ∷ getD t 6 0 ∷ getD t 7 0 ∷ drop 8 t
+eight [] h = absurd (omega arith)
+eight (a ∷ t) h = ap (λ (r : List ℕ). a ∷ r) (seven t (omega arith))
 
 pub ten : (t : List ℕ) → 9 < length t → t ≡ getD t 0 0 ∷ getD t 1 0 ∷ getD t 2 0 ∷ getD t 3 0 ∷ getD t 4 0 ∷ getD t 5 0 ∷ getD t 6 0 ∷ getD t 7 0 ∷ getD t 8 0 ∷ getD t 9 0 ∷ drop 10 t
 ten [] h = absurd (omega arith)

@@ -136,7 +136,7 @@ passed t e =
       colon = and-left (hasColons (drop 11 t)) (leb (length t) 30 && (y && z)) p;
       short = leb-true (length t) 30 (and-left (leb (length t) 30) (y && z) q);
       last = and-left y z r;
-      leap = and-right y z r
+      leap = and-right y z r;
     }
 
 -- and so does a stamp with colons and no ending
