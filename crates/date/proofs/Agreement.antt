@@ -29,7 +29,7 @@ use Rattle.timestamp.proofs.Agreement as Stamps
 use Rattle.timestamp.proofs.Agreement.{clash, none-some, both}
 use Rattle.date.specs.Grammar.{OneOrTwo, one, two, noDigits, Sign, DateText, compact, hyphens, signed, NamesDay, of-date, of-stamp, Reads, reads}
 use Rattle.date.specs.Grammar as Grammar
-use Rattle.date.specs.Answer.{isSign, toHyphen, dayWith, monthDay, signedYear, signedDay, fourDigits, fourAt, compactDay, lastDay, hyphenDay, shortDay, onDay, plainDay, dayNamed, inDays, dateDays}
+use Rattle.date.specs.Answer.{isSign, toHyphen, numbers, monthDay, signedYear, extendedYmd, dayWith, signedDay, fourDigits, fourAt, compactDay, lastDay, hyphenDay, shortDay, onDay, plainDay, dayNamed, inDays, dateDays}
 
 -- ---- the signed form is read
 
@@ -55,7 +55,7 @@ integer-of sign bits {t} {z} n e = rw (Numerals.agrees sign t z .0 n, e)
 behind : (a r : List ℕ) (k : ℕ) → k ≡ length a + 1 → drop k (a ++ (0x2D ∷ r)) ≡ r
 behind a r k e = ap (λ (i : ℕ). drop i (a ++ (0x2D ∷ r))) e ∙ sym (drop-drop 1 (length a) (a ++ (0x2D ∷ r))) ∙ ap (drop 1) (drop-at a (0x2D ∷ r) (length a) refl)
 
-month-day-read : (y : ℤ) (m d : List ℕ) (n k : ℕ) → Numeral false m (pos n) → inUnsigned 32 (pos n) ≡ true → Numeral false d (pos k) → inUnsigned 32 (pos k) ≡ true → monthDay (some y) (toHyphen (m ++ (0x2D ∷ d))) (m ++ (0x2D ∷ d)) ≡ civil y n k
+month-day-read : (y : ℤ) (m d : List ℕ) (n k : ℕ) → Numeral false m (pos n) → inUnsigned 32 (pos n) ≡ true → Numeral false d (pos k) → inUnsigned 32 (pos k) ≡ true → monthDay (some y) (toHyphen (m ++ (0x2D ∷ d))) (m ++ (0x2D ∷ d)) ≡ some (record { year = y; month = n; day = k })
 month-day-read y m d n k p q r s =
     rw (
       number-hyphen p d,
@@ -67,7 +67,7 @@ month-day-read y m d n k p q r s =
     )
 
 signed-read : (s : ℕ) (y m d : List ℕ) (z : ℤ) (n k : ℕ) → 4 ≤ length y → digits y ≡ true → Numeral true (s ∷ y) z → inSigned 31 z ≡ true → Numeral false m (pos n) → inUnsigned 32 (pos n) ≡ true → Numeral false d (pos k) → inUnsigned 32 (pos k) ≡ true → signedDay (s ∷ (y ++ (0x2D ∷ (m ++ (0x2D ∷ d))))) ≡ civil z n k
-unfolding signedDay
+unfolding extendedYmd
 signed-read s y m d z n k h e p q r u v w =
     let r' : List ℕ = m ++ (0x2D ∷ d) in
     rw (
@@ -77,8 +77,8 @@ signed-read s y m d z n k h e p q r u v w =
       take-at (s ∷ y) (0x2D ∷ r') (length y + 1) (omega arith),
       behind (s ∷ y) r' (length y + 2) (omega arith),
       integer-of true 32 p q,
+      month-day-read z m d n k r u v w,
     )
-    (month-day-read z m d n k r u v w)
 
 -- ---- the unsigned forms are read
 
@@ -179,7 +179,7 @@ record Three (o p q : Option ℤ) (z : ℤ) : Type 0 where
   day-is : q ≡ some (pos day)
   named : civil year month day ≡ some z
 
-three-of : (o p q : Option ℤ) (z : ℤ) → dayWith o p q ≡ some z → Three o p q z
+three-of : (o p q : Option ℤ) (z : ℤ) → dayWith (numbers o p q) ≡ some z → Three o p q z
 three-of none p q z e = none-some e
 three-of (some y) none q z e = none-some e
 three-of (some y) (some m) none z e = none-some e
@@ -241,7 +241,7 @@ signed-parts s r n q k z g en eq ek four l u x =
     second = rw ek (at-hyphen q (rw ek at u))
 
 signed-sound : (s : ℕ) (r : List ℕ) (z : ℤ) → isSign s ≡ true → signedDay (s ∷ r) ≡ some z → DateIs (s ∷ r) z
-unfolding signedDay
+unfolding extendedYmd
 signed-sound s r z g e =
     by-test (leb 4 (toHyphen r) && ltb (toHyphen r + 1) (length (s ∷ r)))
     (λ p.
@@ -253,7 +253,7 @@ signed-sound s r z g e =
     more : drop (toHyphen r + 2) (s ∷ r) ≡ drop (toHyphen r + 1) r
     more = let same : toHyphen r + 2 ≡ suc (toHyphen r + 1) = omega arith in ap (λ (i : ℕ). drop i (s ∷ r)) same
 
-    month-sound : (q : List ℕ) → q ≡ drop (toHyphen r + 1) r → 4 ≤ toHyphen r → toHyphen r < length r → monthDay (integer true 32 (take (toHyphen r + 1) (s ∷ r))) (toHyphen q) q ≡ some z → DateIs (s ∷ r) z
+    month-sound : (q : List ℕ) → q ≡ drop (toHyphen r + 1) r → 4 ≤ toHyphen r → toHyphen r < length r → dayWith (monthDay (integer true 32 (take (toHyphen r + 1) (s ∷ r))) (toHyphen q) q) ≡ some z → DateIs (s ∷ r) z
     month-sound q eq four l e =
         by-test (ltb (toHyphen q) (length q))
         (λ u. signed-parts s r (toHyphen r) q (toHyphen q) z g refl eq refl four l (ltb-true (toHyphen q) (length q) u) (three-of (integer true 32 (take (toHyphen r + 1) (s ∷ r))) (integer false 32 (take (toHyphen q) q)) (integer false 32 (drop (toHyphen q + 1) q)) z (rw u at e)))

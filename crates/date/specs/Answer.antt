@@ -25,27 +25,41 @@ unfoldable pub toHyphen : List ℕ → ℕ
 toHyphen [] = 0
 toHyphen (b ∷ t) = cond (eqb b 0x2D) 0 (suc (toHyphen t))
 
--- the day with these numbers, if each was read
-abbrev pub dayWith : Option ℤ → Option ℤ → Option ℤ → Option ℤ
-dayWith none m d = none
-dayWith (some y) none d = none
-dayWith (some y) (some m) none = none
-dayWith (some y) (some (negsuc m)) (some d) = none
-dayWith (some y) (some (pos m)) (some (negsuc d)) = none
-dayWith (some y) (some (pos m)) (some (pos d)) = civil y m d
+-- a year, a month and a day that a text writes, whether the calendar has them or not
+pub record Numbers : Type 0 where
+  pub year : ℤ
+  pub month : ℕ
+  pub day : ℕ
 
--- a month and a day, parted by the first hyphen
-abbrev pub monthDay : Option ℤ → ℕ → List ℕ → Option ℤ
-monthDay y n t =
-    cond (ltb n (length t)) (dayWith y (integer false 32 (take n t)) (integer false 32 (drop (n + 1) t))) none
+-- three integers, if each was read
+abbrev pub numbers : Option ℤ → Option ℤ → Option ℤ → Option Numbers
+numbers none m d = none
+numbers (some y) none d = none
+numbers (some y) (some m) none = none
+numbers (some y) (some (negsuc m)) (some d) = none
+numbers (some y) (some (pos m)) (some (negsuc d)) = none
+numbers (some y) (some (pos m)) (some (pos d)) = some (record { year = y; month = m; day = d })
 
--- a sign and a year, up to the first hyphen after the sign, of which n bytes stand before it
-abbrev pub signedYear : ℕ → List ℕ → Option ℤ
+-- a month and a day, parted by the first hyphen, before which n bytes stand
+abbrev pub monthDay : Option ℤ → ℕ → List ℕ → Option Numbers
+monthDay y n t = cond (ltb n (length t)) (numbers y (integer false 32 (take n t)) (integer false 32 (drop (n + 1) t))) none
+
+-- a sign and a year of at least four bytes, up to the first hyphen after the sign, before which n bytes stand
+abbrev pub signedYear : ℕ → List ℕ → Option Numbers
 signedYear n t =
     cond (leb 4 n && ltb (n + 1) (length t)) (monthDay (integer true 32 (take (n + 1) t)) (toHyphen (drop (n + 2) t)) (drop (n + 2) t)) none
 
-unfoldable pub signedDay : List ℕ → Option ℤ
-signedDay t = signedYear (toHyphen (drop 1 t)) t
+-- what the signed form writes: the Rust's `parse_extended_ymd`
+unfoldable pub extendedYmd : List ℕ → Option Numbers
+extendedYmd t = signedYear (toHyphen (drop 1 t)) t
+
+-- the day with these numbers, if the calendar has it
+abbrev pub dayWith : Option Numbers → Option ℤ
+dayWith none = none
+dayWith (some x) = civil (x .year) (x .month) (x .day)
+
+abbrev pub signedDay : List ℕ → Option ℤ
+signedDay t = dayWith (extendedYmd t)
 
 -- ---- the unsigned forms of at most 10 bytes
 
