@@ -1,4 +1,7 @@
 -- Laws that belong to no one function.
+pub mod Shapes
+pub mod Agreement
+pub mod SiteAgrees
 pub mod TwoDigits
 pub mod Dates
 pub mod Times

@@ -2,3 +2,5 @@
 pub mod Clock
 pub mod Grammar
 pub mod Answer
+pub mod Meaning
+pub mod Site

@@ -1,0 +1,1 @@
+// The `parse` of the ten column types.

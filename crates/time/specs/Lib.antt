@@ -1,0 +1,3 @@
+-- What the contracts of `time` cite.
+pub mod Grammar
+pub mod Answer

@@ -1,0 +1,418 @@
+-- The grammar of stamps and the computation agree: a text names a moment exactly where the computation accepts it with that moment, and
+-- it has at most one reading. Assumes nothing.
+use mathlib.Core.Path.{_≡_, refl, sym, ap, _∙_, subst}
+use mathlib.Core.Bool.{Bool, true, false, not, _&&_, _||_, false≢true}
+use mathlib.Core.Logic.{_⊎_, inl, inr, ⊎-elim, _↔_}
+use mathlib.Core.List.{List, [], _∷_, _++_, append-nil}
+use mathlib.Core.Option.{Option, none, some}
+use Prim.Native.Nat.{ℕ, suc, _+_, _*_, _<_}
+use native.Mathlib.Omega.{arith}
+use lib.Dec.{eqb, lit<}
+use lib.ListN.{length, getD, take, drop, length-append, take-append-drop, drop-of-length-le}
+use lib.Seq.{take-append-seam, drop-append-seam, drop-drop, drop-cons, getD-at}
+use lib.IntN.{ℤ, pos}
+use borrow.Author.Tests.{ne-eqb, eqb-true, eqb-false, not-true}
+use Rattle.calendar.specs.Calendar.{civil}
+use Rattle.number.specs.Widths.{inSigned}
+use Rattle.refusal.specs.Outcome.{Outcome, accepted, refused, andThen}
+use Rattle.text.specs.Digits.{isDigit, digits, value, run}
+use Rattle.text.specs.Utf8.{utf8}
+use Rattle.text.proofs.Bools.{and-left, and-right, or-cases, by-test}
+use Rattle.text.proofs.Ascii.{ascii, ascii-nil, ascii-cons, ascii-append, ascii-digits, ascii-utf8}
+use Rattle.timestamp.specs.Clock.{Clock, clock, inRange, nanosFrom, nanosOf, sinceMidnight}
+use Rattle.timestamp.specs.Grammar.{Figures, figures, Ymd, FullDate, full-date, Secfrac, no-fraction, fraction, PartialTime, colons, basic, Separator, capital, small, space, Ending, none-given, capital-z, small-z, Stamp, date-alone, date-time}
+use Rattle.timestamp.specs.Answer.{twoDigits, twoAt, isDate, dayOf, hasColons, isBasic, Timed, timedAt, timed, withFraction, afterSeconds, basicTime, timeOf, isEnding, isSeparator, Moment, moment, instant, atEnd, onTime, afterDate, onDate, plainMoment, datetime, inNanos, stampNanos}
+use Rattle.timestamp.specs.Meaning.{Rfc3339, utc, Names, names, Reads, reads}
+use Rattle.timestamp.proofs.Shapes.{all-digits, by-two, by-four, two-figures, four-figures, two-value, four-value, inside, not-sign, run-all, run-digits, six, eight, ten}
+
+-- ---- a date is read
+
+-- the bytes of a date, before r
+record DateRead (t r : List ℕ) (d : Ymd) : Type 0 where
+  shape : isDate (t ++ r) ≡ true
+  year : twoAt (t ++ r) 0 * 100 + twoAt (t ++ r) 2 ≡ d .year
+  month : twoAt (t ++ r) 5 ≡ d .month
+  day : twoAt (t ++ r) 8 ≡ d .day
+  size : length t ≡ 10
+  rest : drop 10 (t ++ r) ≡ r
+
+date-read : {t : List ℕ} {d : Ymd} → FullDate t d → (r : List ℕ) → DateRead t r d
+date-read (full-date y m d p q s) r =
+    by-four (λ y. DateRead (y ++ (0x2D ∷ (m ++ (0x2D ∷ d)))) r (record { year = value 0 y; month = value 0 m; day = value 0 d }))
+    (λ a b c e fa fb fc fe.
+    by-two (λ m. DateRead (a ∷ b ∷ c ∷ e ∷ 0x2D ∷ (m ++ (0x2D ∷ d))) r (record { year = value 0 (a ∷ b ∷ c ∷ e ∷ []); month = value 0 m; day = value 0 d }))
+    (λ g h fg fh.
+    by-two (λ d. DateRead (a ∷ b ∷ c ∷ e ∷ 0x2D ∷ g ∷ h ∷ 0x2D ∷ d) r (record { year = value 0 (a ∷ b ∷ c ∷ e ∷ []); month = value 0 (g ∷ h ∷ []); day = value 0 d }))
+    (λ i j fi fj. record {
+      shape = rw (fa, fb, fc, fe, fg, fh, fi, fj);
+      year = sym (four-value a b c e);
+      month = sym (two-value g h);
+      day = sym (two-value i j);
+      size = refl;
+      rest = refl;
+    }) d s) m q) y p
+
+-- what stands at byte 10 and after it
+pub seam : {a : List ℕ} {d : Ymd} → FullDate a d → (s : ℕ) (q : List ℕ) → (getD (a ++ (s ∷ q)) 10 0 ≡ s) × (drop 11 (a ++ (s ∷ q)) ≡ q)
+seam {a} f s q =
+    let x = date-read f (s ∷ q) in
+    (getD-at a s q 0 10 (x .size), sym (drop-drop 1 10 (a ++ (s ∷ q))) ∙ ap (drop 1) (x .rest))
+
+pub date-size : {t : List ℕ} {d : Ymd} → FullDate t d → length t ≡ 10
+date-size f = date-read f [] .size
+
+-- ---- a time is read
+
+-- what follows a time begins with no digit and no point
+ending-first : {e : List ℕ} → Ending e → (isDigit (getD e 0 0) ≡ false) × (eqb (getD e 0 0) 0x2E ≡ false) × (isDigit (getD e 1 0) ≡ false)
+ending-first none-given = (refl, refl, refl)
+ending-first capital-z = (refl, refl, refl)
+ending-first small-z = (refl, refl, refl)
+
+is-ending : {e : List ℕ} → Ending e → isEnding e ≡ true
+is-ending none-given = refl
+is-ending capital-z = refl
+is-ending small-z = refl
+
+-- the fields of a time, in range
+abbrev pub Ok : Clock → Type 0
+Ok c = inRange (c .hour) (c .minute) (c .second) ≡ true
+
+abbrev timeIs : Clock → List ℕ → Option Timed
+timeIs c e = some (record { nanos = sinceMidnight c; tail = e })
+
+fraction-read : (h m s : ℕ) {x f : List ℕ} → Secfrac x f → {e : List ℕ} → Ending e → inRange h m s ≡ true → afterSeconds h m s (x ++ e) ≡ timeIs (clock h m s f) e
+fraction-read h m s no-fraction {e} n ok = rw (ending-first n .1, ok)
+fraction-read h m s (fraction {b} {f} p q) {e} n ok =
+    rw (
+      run-all (b ∷ f) e (all-digits b f p q) (ending-first n .0),
+      ne-eqb (length (b ∷ f)) 0 (λ z. omega arith),
+      take-append-seam (b ∷ f) e,
+      drop-append-seam (b ∷ f) e,
+      ok,
+    )
+
+-- six digits, with colons and without
+module _ (a b c d g i : ℕ) (fa : isDigit a ≡ true) (fb : isDigit b ≡ true) (fc : isDigit c ≡ true) (fd : isDigit d ≡ true) (fg : isDigit g ≡ true) (fi : isDigit i ≡ true) where
+  with-colons : {x f : List ℕ} → Secfrac x f → {e : List ℕ} → Ending e → Ok (clock (value 0 (a ∷ b ∷ [])) (value 0 (c ∷ d ∷ [])) (value 0 (g ∷ i ∷ [])) f) → timeOf (a ∷ b ∷ 0x3A ∷ c ∷ d ∷ 0x3A ∷ g ∷ i ∷ (x ++ e)) ≡ timeIs (clock (value 0 (a ∷ b ∷ [])) (value 0 (c ∷ d ∷ [])) (value 0 (g ∷ i ∷ [])) f) e
+  unfolding timeOf
+  with-colons v n = rw (two-value a b, two-value c d, two-value g i, fa, fb, fc, fd, fg, fi) (fraction-read (twoAt (a ∷ b ∷ []) 0) (twoAt (c ∷ d ∷ []) 0) (twoAt (g ∷ i ∷ []) 0) v n)
+
+  without : {e : List ℕ} → Ending e → Ok (clock (value 0 (a ∷ b ∷ [])) (value 0 (c ∷ d ∷ [])) (value 0 (g ∷ i ∷ [])) []) → timeOf (a ∷ b ∷ c ∷ d ∷ g ∷ i ∷ e) ≡ timeIs (clock (value 0 (a ∷ b ∷ [])) (value 0 (c ∷ d ∷ [])) (value 0 (g ∷ i ∷ [])) []) e
+  unfolding timeOf
+  without {e} n =
+      rw (two-value a b, two-value c d, two-value g i, not-sign c 0x3A fc (inr (omega arith)), fa, fb, fc, fd, fg, fi, ending-first n .0, ending-first n .2)
+      (λ ok. rw ok)
+
+time-read : {t : List ℕ} {c : Clock} → PartialTime t c → {e : List ℕ} → Ending e → Ok c → timeOf (t ++ e) ≡ timeIs c e
+time-read (colons h m s x f p q u v) {e} n =
+    by-two (λ h. Ok (clock (value 0 h) (value 0 m) (value 0 s) f) → timeOf ((h ++ (0x3A ∷ (m ++ (0x3A ∷ (s ++ x))))) ++ e) ≡ timeIs (clock (value 0 h) (value 0 m) (value 0 s) f) e)
+    (λ a b fa fb.
+    by-two (λ m. Ok (clock (value 0 (a ∷ b ∷ [])) (value 0 m) (value 0 s) f) → timeOf (a ∷ b ∷ 0x3A ∷ ((m ++ (0x3A ∷ (s ++ x))) ++ e)) ≡ timeIs (clock (value 0 (a ∷ b ∷ [])) (value 0 m) (value 0 s) f) e)
+    (λ c d fc fd.
+    by-two (λ s. Ok (clock (value 0 (a ∷ b ∷ [])) (value 0 (c ∷ d ∷ [])) (value 0 s) f) → timeOf (a ∷ b ∷ 0x3A ∷ c ∷ d ∷ 0x3A ∷ ((s ++ x) ++ e)) ≡ timeIs (clock (value 0 (a ∷ b ∷ [])) (value 0 (c ∷ d ∷ [])) (value 0 s) f) e)
+    (λ g i fg fi. with-colons a b c d g i fa fb fc fd fg fi v n) s u) m q) h p
+time-read (basic h m s p q u) {e} n =
+    by-two (λ h. Ok (clock (value 0 h) (value 0 m) (value 0 s) []) → timeOf ((h ++ (m ++ s)) ++ e) ≡ timeIs (clock (value 0 h) (value 0 m) (value 0 s) []) e)
+    (λ a b fa fb.
+    by-two (λ m. Ok (clock (value 0 (a ∷ b ∷ [])) (value 0 m) (value 0 s) []) → timeOf (a ∷ b ∷ ((m ++ s) ++ e)) ≡ timeIs (clock (value 0 (a ∷ b ∷ [])) (value 0 m) (value 0 s) []) e)
+    (λ c d fc fd.
+    by-two (λ s. Ok (clock (value 0 (a ∷ b ∷ [])) (value 0 (c ∷ d ∷ [])) (value 0 s) []) → timeOf (a ∷ b ∷ c ∷ d ∷ (s ++ e)) ≡ timeIs (clock (value 0 (a ∷ b ∷ [])) (value 0 (c ∷ d ∷ [])) (value 0 s) []) e)
+    (λ g i fg fi. without a b c d g i fa fb fc fd fg fi n) s u) m q) h p
+
+-- ---- a stamp of the grammar is accepted
+
+is-separator : {s : ℕ} → Separator s → isSeparator s ≡ true
+is-separator capital = refl
+is-separator small = refl
+is-separator space = refl
+
+day-read : {t : List ℕ} {d : Ymd} → FullDate t d → (r : List ℕ) (z : ℤ) → civil (pos (d .year)) (d .month) (d .day) ≡ some z → dayOf (t ++ r) ≡ some z
+unfolding dayOf
+day-read f r z e = let x = date-read f r in rw (x .shape, x .year, x .month, x .day) e
+
+pub complete : {t : List ℕ} {m : Moment} → Names t m → plainMoment t ≡ accepted m
+unfolding plainMoment nanosFrom
+complete (names z (date-alone {t} f) e ok) =
+    rw (rw append-nil at (day-read f [] z e), date-read f [] .size)
+complete (names z (date-time a b n s {d} {c} f g p q) e ok) =
+    let x = date-read f (s ∷ (b ++ n)) in
+    let long : length (a ++ (s ∷ (b ++ n))) ≡ 10 → ⊥ = λ h. omega (arith, length-append a (s ∷ (b ++ n)), x .size) in
+    let y = seam f s (b ++ n) in
+    rw (day-read f (s ∷ (b ++ n)) z e, ne-eqb (length (a ++ (s ∷ (b ++ n)))) 10 long, y .0, is-separator g, y .1, time-read p q ok, is-ending q)
+
+-- ---- an accepted text is a stamp of the grammar
+
+pub clash {ℓ} : {X : Type ℓ} {A : Type 0} {n : ℕ} {a : A} → refused n ≡ accepted a → X
+clash e = let x : _≡_ {A = ℕ} 0 1 = cc in absurd (omega arith)
+
+pub none-some {ℓ} : {X : Type ℓ} {A : Type 0} {a : A} → none ≡ some a → X
+none-some e = let x : _≡_ {A = ℕ} 0 1 = cc in absurd (omega arith)
+
+record DateIs (t : List ℕ) (z : ℤ) : Type 0 where
+  date : Ymd
+  bytes : List ℕ
+  full : FullDate bytes date
+  text : t ≡ bytes ++ drop 10 t
+  size : length bytes ≡ 10
+  named : civil (pos (date .year)) (date .month) (date .day) ≡ some z
+
+-- both parts of a test
+pub both : (x y : Bool) → x && y ≡ true → (x ≡ true) × (y ≡ true)
+both x y e = (and-left x y e, and-right x y e)
+
+date-sound : (t : List ℕ) (z : ℤ) → isDate t ≡ true → civil (pos (twoAt t 0 * 100 + twoAt t 2)) (twoAt t 5) (twoAt t 8) ≡ some z → DateIs t z
+date-sound t z e n =
+    let p = both (twoDigits t 0) (twoDigits t 2 && (eqb (getD t 4 0) 0x2D && (twoDigits t 5 && (eqb (getD t 7 0) 0x2D && twoDigits t 8)))) e in
+    let q = both (twoDigits t 2) (eqb (getD t 4 0) 0x2D && (twoDigits t 5 && (eqb (getD t 7 0) 0x2D && twoDigits t 8))) (p .1) in
+    let r = both (eqb (getD t 4 0) 0x2D) (twoDigits t 5 && (eqb (getD t 7 0) 0x2D && twoDigits t 8)) (q .1) in
+    let s = both (twoDigits t 5) (eqb (getD t 7 0) 0x2D && twoDigits t 8) (r .1) in
+    let u = both (eqb (getD t 7 0) 0x2D) (twoDigits t 8) (s .1) in
+    let y1 = both (isDigit (getD t 0 0)) (isDigit (getD t 1 0)) (p .0) in
+    let y2 = both (isDigit (getD t 2 0)) (isDigit (getD t 3 0)) (q .0) in
+    let m = both (isDigit (getD t 5 0)) (isDigit (getD t 6 0)) (s .0) in
+    let d = both (isDigit (getD t 8 0)) (isDigit (getD t 9 0)) (u .1) in
+    record {
+      date = record { year = value 0 (getD t 0 0 ∷ getD t 1 0 ∷ getD t 2 0 ∷ getD t 3 0 ∷ []); month = value 0 (getD t 5 0 ∷ getD t 6 0 ∷ []); day = value 0 (getD t 8 0 ∷ getD t 9 0 ∷ []) };
+      bytes = getD t 0 0 ∷ getD t 1 0 ∷ getD t 2 0 ∷ getD t 3 0 ∷ 0x2D ∷ getD t 5 0 ∷ getD t 6 0 ∷ 0x2D ∷ getD t 8 0 ∷ getD t 9 0 ∷ [];
+      full = full-date (getD t 0 0 ∷ getD t 1 0 ∷ getD t 2 0 ∷ getD t 3 0 ∷ []) (getD t 5 0 ∷ getD t 6 0 ∷ []) (getD t 8 0 ∷ getD t 9 0 ∷ []) (four-figures (getD t 0 0) (getD t 1 0) (getD t 2 0) (getD t 3 0) (y1 .0) (y1 .1) (y2 .0) (y2 .1)) (two-figures (getD t 5 0) (getD t 6 0) (m .0) (m .1)) (two-figures (getD t 8 0) (getD t 9 0) (d .0) (d .1));
+      text = rw (eqb-true (getD t 4 0) 0x2D (r .0), eqb-true (getD t 7 0) 0x2D (u .0)) at (ten t (inside t 9 (d .1)));
+      size = refl;
+      named = rw (four-value (getD t 0 0) (getD t 1 0) (getD t 2 0) (getD t 3 0), two-value (getD t 5 0) (getD t 6 0), two-value (getD t 8 0) (getD t 9 0)) n;
+    }
+
+record TimeIs (t : List ℕ) (x : Timed) : Type 0 where
+  fields : Clock
+  bytes : List ℕ
+  time : PartialTime bytes fields
+  text : t ≡ bytes ++ x .tail
+  ok : Ok fields
+  nanos : x .nanos ≡ sinceMidnight fields
+
+-- the fields are in range where there is a time with them
+in-range : (h m s n : ℕ) (e : List ℕ) (x : Timed) → timedAt h m s n e ≡ some x → (inRange h m s ≡ true) × (x ≡ record { nanos = ((h * 60 + m) * 60 + s) * 1000000000 + n; tail = e })
+in-range h m s n e x p =
+    by-test (inRange h m s)
+    (λ ok. let q : some (record { nanos = ((h * 60 + m) * 60 + s) * 1000000000 + n; tail = e }) ≡ some x = rw ok at p in (ok, cc))
+    (λ no. none-some (rw no at p))
+
+-- a point and the digits behind it
+secfrac-of : (u : List ℕ) → (run u ≡ 0 → ⊥) → Secfrac (0x2E ∷ take (run u) u) (take (run u) u)
+unfolding run
+secfrac-of [] h = absurd (h refl)
+secfrac-of (b ∷ u) h =
+    by-test (isDigit b) (λ p. rw p (fraction {b = b} {f = take (run u) u} p (run-digits u))) (λ p. absurd (h (rw p)))
+
+point-first : (r : List ℕ) → eqb (getD r 0 0) 0x2E ≡ true → r ≡ 0x2E ∷ drop 1 r
+point-first [] e = absurd (false≢true e)
+point-first (b ∷ r) e = ap (λ (x : ℕ). x ∷ r) (eqb-true b 0x2E e)
+
+-- six digits a b, c d, g i, and what follows
+module _ (a b c d g i : ℕ) (fa : isDigit a ≡ true) (fb : isDigit b ≡ true) (fc : isDigit c ≡ true) (fd : isDigit d ≡ true) (fg : isDigit g ≡ true) (fi : isDigit i ≡ true) where
+  abbrev hms : List ℕ → Clock
+  hms f = clock (value 0 (a ∷ b ∷ [])) (value 0 (c ∷ d ∷ [])) (value 0 (g ∷ i ∷ [])) f
+
+  -- the same in what the digits are worth
+  worth-ok : inRange (twoAt (a ∷ b ∷ []) 0) (twoAt (c ∷ d ∷ []) 0) (twoAt (g ∷ i ∷ []) 0) ≡ true → (f : List ℕ) → Ok (hms f)
+  worth-ok ok f = rw (two-value a b, two-value c d, two-value g i) ok
+
+  worth-nanos : (f : List ℕ) → ((twoAt (a ∷ b ∷ []) 0 * 60 + twoAt (c ∷ d ∷ []) 0) * 60 + twoAt (g ∷ i ∷ []) 0) * 1000000000 + nanosOf f ≡ sinceMidnight (hms f)
+  worth-nanos f = rw (two-value a b, two-value c d, two-value g i)
+
+  colons-sound : (r : List ℕ) (x : Timed) → afterSeconds (twoAt (a ∷ b ∷ []) 0) (twoAt (c ∷ d ∷ []) 0) (twoAt (g ∷ i ∷ []) 0) r ≡ some x → TimeIs (a ∷ b ∷ 0x3A ∷ c ∷ d ∷ 0x3A ∷ g ∷ i ∷ r) x
+  colons-sound r x e =
+      by-test (eqb (getD r 0 0) 0x2E)
+      (λ p. by-test (eqb (run (drop 1 r)) 0)
+      (λ q. none-some (rw (p, q) at e))
+      (λ q.
+      let u : List ℕ = drop 1 r in
+      let y = in-range (twoAt (a ∷ b ∷ []) 0) (twoAt (c ∷ d ∷ []) 0) (twoAt (g ∷ i ∷ []) 0) (nanosOf (take (run u) u)) (drop (run u) u) x (rw (p, q) at e) in
+      rw (y .1) (record {
+        fields = hms (take (run u) u);
+        bytes = a ∷ b ∷ 0x3A ∷ c ∷ d ∷ 0x3A ∷ g ∷ i ∷ 0x2E ∷ take (run u) u;
+        time = colons (a ∷ b ∷ []) (c ∷ d ∷ []) (g ∷ i ∷ []) (0x2E ∷ take (run u) u) (take (run u) u) (two-figures a b fa fb) (two-figures c d fc fd) (two-figures g i fg fi) (secfrac-of u (eqb-false (run u) 0 q));
+        text = ap (λ (v : List ℕ). a ∷ b ∷ 0x3A ∷ c ∷ d ∷ 0x3A ∷ g ∷ i ∷ v) (point-first r p ∙ ap (λ (v : List ℕ). 0x2E ∷ v) (sym (take-append-drop (run u) u)));
+        ok = worth-ok (y .0) (take (run u) u);
+        nanos = worth-nanos (take (run u) u);
+      })))
+      (λ p.
+      let y = in-range (twoAt (a ∷ b ∷ []) 0) (twoAt (c ∷ d ∷ []) 0) (twoAt (g ∷ i ∷ []) 0) (nanosOf []) r x (rw p at e) in
+      rw (y .1) (record {
+        fields = hms [];
+        bytes = a ∷ b ∷ 0x3A ∷ c ∷ d ∷ 0x3A ∷ g ∷ i ∷ [];
+        time = colons (a ∷ b ∷ []) (c ∷ d ∷ []) (g ∷ i ∷ []) [] [] (two-figures a b fa fb) (two-figures c d fc fd) (two-figures g i fg fi) no-fraction;
+        text = refl;
+        ok = worth-ok (y .0) [];
+        nanos = worth-nanos [];
+      }))
+
+  basic-sound : (r : List ℕ) (x : Timed) → timed (twoAt (a ∷ b ∷ []) 0) (twoAt (c ∷ d ∷ []) 0) (twoAt (g ∷ i ∷ []) 0) [] r ≡ some x → TimeIs (a ∷ b ∷ c ∷ d ∷ g ∷ i ∷ r) x
+  basic-sound r x e =
+      let y = in-range (twoAt (a ∷ b ∷ []) 0) (twoAt (c ∷ d ∷ []) 0) (twoAt (g ∷ i ∷ []) 0) (nanosOf []) r x e in
+      rw (y .1) (record {
+        fields = hms [];
+        bytes = a ∷ b ∷ c ∷ d ∷ g ∷ i ∷ [];
+        time = basic (a ∷ b ∷ []) (c ∷ d ∷ []) (g ∷ i ∷ []) (two-figures a b fa fb) (two-figures c d fc fd) (two-figures g i fg fi);
+        text = refl;
+        ok = worth-ok (y .0) [];
+        nanos = worth-nanos [];
+      })
+
+time-sound : (t : List ℕ) (x : Timed) → timeOf t ≡ some x → TimeIs t x
+unfolding timeOf
+time-sound t x e =
+    by-test (hasColons t)
+    (λ p.
+    let q = both (twoDigits t 0) (eqb (getD t 2 0) 0x3A && (twoDigits t 3 && (eqb (getD t 5 0) 0x3A && twoDigits t 6))) p in
+    let r = both (eqb (getD t 2 0) 0x3A) (twoDigits t 3 && (eqb (getD t 5 0) 0x3A && twoDigits t 6)) (q .1) in
+    let s = both (twoDigits t 3) (eqb (getD t 5 0) 0x3A && twoDigits t 6) (r .1) in
+    let u = both (eqb (getD t 5 0) 0x3A) (twoDigits t 6) (s .1) in
+    let h = both (isDigit (getD t 0 0)) (isDigit (getD t 1 0)) (q .0) in
+    let m = both (isDigit (getD t 3 0)) (isDigit (getD t 4 0)) (s .0) in
+    let n = both (isDigit (getD t 6 0)) (isDigit (getD t 7 0)) (u .1) in
+    subst (λ (v : List ℕ). TimeIs v x)
+    (sym (rw (eqb-true (getD t 2 0) 0x3A (r .0), eqb-true (getD t 5 0) 0x3A (u .0)) at (eight t (inside t 7 (n .1)))))
+    (colons-sound (getD t 0 0) (getD t 1 0) (getD t 3 0) (getD t 4 0) (getD t 6 0) (getD t 7 0) (h .0) (h .1) (m .0) (m .1) (n .0) (n .1) (drop 8 t) x (rw p at e)))
+    (λ p.
+    by-test (isBasic t)
+    (λ q.
+    let r = both (twoDigits t 0) (twoDigits t 2 && (twoDigits t 4 && (not (isDigit (getD t 6 0)) && not (isDigit (getD t 7 0))))) q in
+    let s = both (twoDigits t 2) (twoDigits t 4 && (not (isDigit (getD t 6 0)) && not (isDigit (getD t 7 0)))) (r .1) in
+    let u = both (twoDigits t 4) (not (isDigit (getD t 6 0)) && not (isDigit (getD t 7 0))) (s .1) in
+    let h = both (isDigit (getD t 0 0)) (isDigit (getD t 1 0)) (r .0) in
+    let m = both (isDigit (getD t 2 0)) (isDigit (getD t 3 0)) (s .0) in
+    let n = both (isDigit (getD t 4 0)) (isDigit (getD t 5 0)) (u .0) in
+    subst (λ (v : List ℕ). TimeIs v x) (sym (six t (inside t 5 (n .1))))
+    (basic-sound (getD t 0 0) (getD t 1 0) (getD t 2 0) (getD t 3 0) (getD t 4 0) (getD t 5 0) (h .0) (h .1) (m .0) (m .1) (n .0) (n .1) (drop 6 t) x (rw (p, q) at e)))
+    (λ q. none-some (rw (p, q) at e)))
+
+ending-sound : (e : List ℕ) → isEnding e ≡ true → Ending e
+ending-sound [] p = none-given
+ending-sound (b ∷ []) p =
+    ⊎-elim (λ q. rw (eqb-true b 0x5A q) capital-z) (λ q. rw (eqb-true b 0x7A q) small-z) (or-cases (eqb b 0x5A) (eqb b 0x7A) p)
+ending-sound (b ∷ c ∷ e) p = absurd (false≢true p)
+
+separator-sound : (b : ℕ) → isSeparator b ≡ true → Separator b
+separator-sound b p =
+    ⊎-elim (λ q. rw (eqb-true b 0x54 q) capital)
+    (λ q. ⊎-elim (λ r. rw (eqb-true b 0x74 r) small) (λ r. rw (eqb-true b 0x20 r) space) (or-cases (eqb b 0x74) (eqb b 0x20) q))
+    (or-cases (eqb b 0x54) (eqb b 0x74 || eqb b 0x20) p)
+
+-- the date is read; what follows is nothing, or a separator, a time and an ending
+module _ (t : List ℕ) (z : ℤ) (x : DateIs t z) (m : Moment) where
+  alone : length t ≡ 10 → accepted (moment z 0) ≡ accepted m → Names t m
+  unfolding nanosFrom
+  alone h e =
+      let q : moment z 0 ≡ m = cc in
+      let w : t ≡ x .bytes = x .text ∙ ap (λ (r : List ℕ). x .bytes ++ r) (drop-of-length-le t {i = 10} (omega arith)) ∙ append-nil (x .bytes) in
+      rw (← q, w) (names z (date-alone (x .full)) (x .named) refl)
+
+  at-time : (length t ≡ 10 → ⊥) → isSeparator (getD t 10 0) ≡ true → (o : Option Timed) → timeOf (drop 11 t) ≡ o → onTime z o ≡ accepted m → Names t m
+  at-time h s none p e = clash e
+  at-time h s (some y) p e =
+      by-test (isEnding (y .tail))
+      (λ n.
+      let k = time-sound (drop 11 t) y p in
+      let q : accepted (moment z (y .nanos)) ≡ accepted m = rw n at e in
+      let v : moment z (sinceMidnight (k .fields)) ≡ m = cc (k .nanos) in
+      let long : 10 < length t = omega (arith, ap length (x .text), length-append (x .bytes) (drop 10 t), x .size) in
+      let w : t ≡ x .bytes ++ (getD t 10 0 ∷ (k .bytes ++ y .tail)) =
+      x .text ∙ ap (λ (r : List ℕ). x .bytes ++ r) (drop-cons t 10 0 long ∙ ap (λ (r : List ℕ). getD t 10 0 ∷ r) (k .text)) in
+      subst (λ (u : List ℕ). Names u m) (sym w)
+      (rw (← v) (names z (date-time (x .bytes) (k .bytes) (y .tail) (getD t 10 0) (x .full) (separator-sound (getD t 10 0) s) (k .time) (ending-sound (y .tail) n)) (x .named) (k .ok))))
+      (λ n. clash (rw n at e))
+
+  after : afterDate t z ≡ accepted m → Names t m
+  after e =
+      by-test (eqb (length t) 10)
+      (λ h. alone (eqb-true (length t) 10 h) (rw h at e))
+      (λ h.
+      by-test (isSeparator (getD t 10 0))
+      (λ s. at-time (eqb-false (length t) 10 h) s (timeOf (drop 11 t)) refl (rw (h, s) at e))
+      (λ s. clash (rw (h, s) at e)))
+
+pub sound : (t : List ℕ) (m : Moment) → plainMoment t ≡ accepted m → Names t m
+unfolding plainMoment dayOf
+sound t m e =
+    by-test (isDate t)
+    (λ p. by (civil (pos (twoAt t 0 * 100 + twoAt t 2)) (twoAt t 5) (twoAt t 8)) (date-sound t) p (rw p at e))
+    (λ p. clash (rw p at e))
+  where
+    by : (o : Option ℤ) → ((z : ℤ) → isDate t ≡ true → o ≡ some z → DateIs t z) → isDate t ≡ true → onDate t o ≡ accepted m → Names t m
+    by none f p e = clash e
+    by (some z) f p e = after t z (f z p refl) m e
+
+-- ---- stamps are ASCII
+
+pub ascii-figures : {n : ℕ} {t : List ℕ} → Figures n t → ascii t ≡ true
+ascii-figures {n} {t} (figures h e) = ascii-digits t e
+
+ascii-date : {t : List ℕ} {d : Ymd} → FullDate t d → ascii t ≡ true
+ascii-date (full-date y m d p q r) =
+    ascii-append y _ (ascii-figures p) (ascii-cons 0x2D _ (lit< tt) (ascii-append m _ (ascii-figures q) (ascii-cons 0x2D d (lit< tt) (ascii-figures r))))
+
+pub ascii-secfrac : {x f : List ℕ} → Secfrac x f → ascii x ≡ true
+ascii-secfrac no-fraction = ascii-nil
+ascii-secfrac (fraction {b} {f} p q) = ascii-cons 0x2E (b ∷ f) (lit< tt) (ascii-digits (b ∷ f) (all-digits b f p q))
+
+ascii-time : {t : List ℕ} {c : Clock} → PartialTime t c → ascii t ≡ true
+ascii-time (colons h m s x f p q r v) =
+    ascii-append h _ (ascii-figures p)
+    (ascii-cons 0x3A _ (lit< tt) (ascii-append m _ (ascii-figures q) (ascii-cons 0x3A _ (lit< tt) (ascii-append s x (ascii-figures r) (ascii-secfrac v)))))
+ascii-time (basic h m s p q r) = ascii-append h _ (ascii-figures p) (ascii-append m s (ascii-figures q) (ascii-figures r))
+
+ascii-ending : {e : List ℕ} → Ending e → ascii e ≡ true
+ascii-ending none-given = ascii-nil
+ascii-ending capital-z = ascii-cons 0x5A [] (lit< tt) ascii-nil
+ascii-ending small-z = ascii-cons 0x7A [] (lit< tt) ascii-nil
+
+ascii-separator : {s : ℕ} → Separator s → s < 0x80
+ascii-separator capital = lit< tt
+ascii-separator small = lit< tt
+ascii-separator space = lit< tt
+
+pub ascii-stamp : {t : List ℕ} {d : Ymd} {c : Clock} → Stamp t d c → ascii t ≡ true
+ascii-stamp (date-alone f) = ascii-date f
+ascii-stamp (date-time a b e s f g p q) =
+    ascii-append a _ (ascii-date f) (ascii-cons s _ (ascii-separator g) (ascii-append b e (ascii-time p) (ascii-ending q)))
+
+named-utf8 : {t : List ℕ} {m : Moment} → Names t m → utf8 t ≡ true
+named-utf8 {t} (names z s e ok) = ascii-utf8 t (ascii-stamp s)
+
+-- a text that is accepted is UTF-8, so that it need not be looked at first
+pub read-utf8 : (t : List ℕ) (m : Moment) → plainMoment t ≡ accepted m → utf8 t ≡ true
+read-utf8 t m e = named-utf8 (sound t m e)
+
+-- ---- the theorems
+
+-- a text names a moment exactly where it is accepted with that moment
+pub agrees : (t : List ℕ) (m : Moment) → Names t m ↔ (datetime t ≡ accepted m)
+agrees t m = (λ n. rw (named-utf8 n) (complete n), λ e. by-test (utf8 t) (λ u. sound t m (rw u at e)) (λ u. clash (rw u at e)))
+
+-- at most one
+pub one-moment : {t : List ℕ} {m n : Moment} → Names t m → Names t n → m ≡ n
+one-moment p q = let x = complete p in let y = complete q in cc
+
+-- a text is read as a number of nanoseconds exactly where it is accepted with that number
+pub read-as : (t : List ℕ) (z : ℤ) → Reads t z ↔ (stampNanos t ≡ accepted z)
+read-as t z = (into, back (datetime t) refl)
+  where
+    into : {z : ℤ} → Reads t z → stampNanos t ≡ accepted z
+    into (reads m n f) = rw (agrees t m .0 n, f)
+
+    back : (o : Outcome Moment) → datetime t ≡ o → andThen o (λ m. inNanos (instant m)) ≡ accepted z → Reads t z
+    back (accepted m) e p =
+        by-test (inSigned 63 (instant m))
+        (λ f. let q : accepted (instant m) ≡ accepted z = rw f at p in let v : instant m ≡ z = cc in rw (← v) (reads m (agrees t m .1 e) f))
+        (λ f. clash (rw f at p))
+    back (refused k) e p = clash p
+
+-- every UTC date-time of RFC 3339, of a day of the calendar, in range (second 60 as document 01 narrows it), is a stamp, and where its
+-- instant fits it is accepted with that instant
+is-stamp : {t : List ℕ} {d : Ymd} {c : Clock} → Rfc3339 t d c → Stamp t d c
+is-stamp (utc a h m s x f t z p q r u v w y) =
+    date-time a _ (z ∷ []) t p (⊎-elim (λ e. rw e capital) (λ e. rw e small) q) (colons h m s x f r u v w) (⊎-elim (λ e. rw e capital-z) (λ e. rw e small-z) y)
+
+pub rfc3339 : {t : List ℕ} {d : Ymd} {c : Clock} (z : ℤ) → Rfc3339 t d c → civil (pos (d .year)) (d .month) (d .day) ≡ some z → Ok c → inSigned 63 (instant (moment z (sinceMidnight c))) ≡ true → stampNanos t ≡ accepted (instant (moment z (sinceMidnight c)))
+rfc3339 {t} {d} {c} z r e ok fits =
+    read-as t (instant (moment z (sinceMidnight c))) .0 (reads (moment z (sinceMidnight c)) (names z (is-stamp r) e ok) fits)
