@@ -18,11 +18,11 @@ use Rattle.number.specs.Widths.{inSigned, inUnsigned, inType, keep}
 use Rattle.number.specs.Decimal.{Digits, one-or-more, Numeral, plain, plus, minus, numeral, integer}
 use Rattle.number.proofs.Agreement as Numerals
 use Rattle.refusal.specs.Outcome.{Outcome, accepted, refused, andThen}
-use Rattle.text.specs.Digits.{isDigit, worth, digits, value}
+use Rattle.text.specs.Digits.{isDigit, worth, digits, value, twoDigits, twoAt}
 use Rattle.text.specs.Utf8.{utf8}
 use Rattle.text.proofs.Bools.{and-left, and-right, and-false, or-cases, by-test, within-is}
 use Rattle.timestamp.specs.Grammar.{Figures}
-use Rattle.timestamp.specs.Answer.{twoDigits, twoAt, isDate, dayOf, Moment, plainMoment}
+use Rattle.timestamp.specs.Answer.{isDate, dayOf, Moment, plainMoment}
 use Rattle.timestamp.specs.Meaning.{Names}
 use Rattle.timestamp.proofs.Shapes.{all-digits, by-one, by-two, by-four, one-figure, two-figures, four-figures, one-value, two-value, four-value, not-sign, size-of, sign-inside, inside, seven, eight}
 use Rattle.timestamp.proofs.Agreement as Stamps

@@ -11,8 +11,8 @@ use Rattle.calendar.specs.Calendar.{civil}
 use Rattle.number.specs.Widths.{inSigned}
 use Rattle.number.specs.Decimal.{integer}
 use Rattle.refusal.specs.Outcome.{Outcome, accepted, refused, inUtf8, andThen}
-use Rattle.text.specs.Digits.{isDigit, worth}
-use Rattle.timestamp.specs.Answer.{twoDigits, twoAt, Moment, plainMoment}
+use Rattle.text.specs.Digits.{isDigit, worth, twoDigits, twoAt}
+use Rattle.timestamp.specs.Answer.{Moment, plainMoment}
 use Rattle.date.specs.Grammar.{noDigits}
 
 abbrev pub isSign : ℕ → Bool

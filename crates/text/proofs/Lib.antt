@@ -10,3 +10,4 @@ pub mod WhiteAgrees
 pub mod TrimLaws
 pub mod TrimAgrees
 pub mod Ascii
+pub mod TwoDigits

@@ -3,6 +3,7 @@ use mathlib.Core.Bool.{Bool, true, false, cond, _&&_}
 use mathlib.Core.List.{List, [], _∷_}
 use Prim.Native.Nat.{ℕ, zero, suc, _+_, _*_, _-_, _%_}
 use lib.Dec.{leb}
+use lib.ListN.{getD}
 
 -- a is at most b, and b at most c
 abbrev pub within : ℕ → ℕ → ℕ → Bool
@@ -34,3 +35,10 @@ value a (b ∷ t) = value (a * 10 + worth b) t
 unfoldable pub run : List ℕ → ℕ
 run [] = 0
 run (b ∷ t) = cond (isDigit b) (suc (run t)) 0
+
+-- two digits at a place, and their number; past the end of a text is a 0, which is no digit and no sign of a grammar
+abbrev pub twoDigits : List ℕ → ℕ → Bool
+twoDigits t i = isDigit (getD t i 0) && isDigit (getD t (i + 1) 0)
+
+abbrev pub twoAt : List ℕ → ℕ → ℕ
+twoAt t i = worth (getD t i 0) * 10 + worth (getD t (i + 1) 0)

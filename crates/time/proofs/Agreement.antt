@@ -13,13 +13,12 @@ use lib.Seq.{take-at, drop-cons, getD-append-add}
 use lib.IntN.{ℤ, pos}
 use borrow.Author.Tests.{eqb-true, ne-eqb, le-leb, leb-true, le-ltb, ltb-false}
 use Rattle.refusal.specs.Outcome.{Outcome, accepted, refused}
-use Rattle.text.specs.Digits.{isDigit, worth, digits, value}
+use Rattle.text.specs.Digits.{isDigit, worth, digits, value, twoDigits, twoAt}
 use Rattle.text.specs.Utf8.{utf8}
 use Rattle.text.proofs.Bools.{and-left, and-right, and-false, or-cases, by-test}
 use Rattle.text.proofs.Ascii.{ascii, ascii-nil, ascii-cons, ascii-append, ascii-digits, ascii-utf8}
 use Rattle.timestamp.specs.Clock.{Clock, clock, inRange, nanosFrom, nanosOf, sinceMidnight}
 use Rattle.timestamp.specs.Grammar.{Figures, figures, Secfrac, no-fraction, fraction}
-use Rattle.timestamp.specs.Answer.{twoDigits, twoAt}
 use Rattle.timestamp.proofs.Shapes.{all-digits, digits-head, by-one, by-two, one-figure, two-figures, one-value, two-value, not-sign, size-of, last-of, last-figure, seconds-end}
 use Rattle.timestamp.proofs.Agreement.{clash, none-some, both, ascii-figures, ascii-secfrac}
 use Rattle.time.specs.Grammar.{Hour, one, two, Written, minutes, seconds, Letter, upper, lower, TimeOfDay, full, Reads, reads}

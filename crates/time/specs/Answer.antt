@@ -8,10 +8,8 @@ use lib.Dec.{eqb, leb, ltb}
 use lib.ListN.{length, getD, take, drop}
 use lib.IntN.{ℤ, pos}
 use Rattle.refusal.specs.Outcome.{Outcome, accepted, refused, inUtf8}
-use Rattle.text.specs.Digits.{isDigit, worth, digits}
+use Rattle.text.specs.Digits.{isDigit, worth, digits, twoDigits, twoAt}
 use Rattle.timestamp.specs.Clock.{inRange, nanosOf}
-use Rattle.timestamp.specs.Answer.{twoDigits, twoAt}
-
 -- a letter in either case
 abbrev pub isLetter : ℕ → ℕ → Bool
 isLetter capital b = eqb b capital || eqb b (capital + 0x20)

@@ -9,10 +9,10 @@ use lib.ListN.{getD, length}
 use lib.IntN.{ℤ, pos}
 use borrow.Author.Tests.{not-true, not-false}
 use Rattle.calendar.specs.Calendar.{civil}
-use Rattle.text.specs.Digits.{digitOf}
+use Rattle.text.specs.Digits.{digitOf, twoDigits}
 use Rattle.text.proofs.Bools.{and-false}
-use Rattle.timestamp.specs.Answer.{twoDigits, isDate, dayOf}
-use Rattle.timestamp.proofs.TwoDigits.{twoOr, past-end, two-test, two-is, sign-test, all-six}
+use Rattle.timestamp.specs.Answer.{isDate, dayOf}
+use Rattle.text.proofs.TwoDigits.{twoOr, past-end, two-test, two-is, sign-test, all-six}
 
 -- century, year of it, month and day are the numbers at their places, and h and k the bytes between
 pub record DateRead (s : List ℕ) (c y h m k d : ℕ) : Type 0 where

@@ -13,7 +13,7 @@ use Rattle.text.specs.Digits.{digitOf, run}
 use Rattle.text.proofs.Bools.{by-test}
 use Rattle.timestamp.specs.Clock.{inRange, nanosFrom, nanosOf}
 use Rattle.timestamp.specs.Answer.{Timed, afterSeconds, timedAt}
-use Rattle.timestamp.proofs.TwoDigits.{sign-test}
+use Rattle.text.proofs.TwoDigits.{sign-test}
 use Rattle.timestamp.proofs.Nanos.{led, of-run}
 
 -- ---- a time and the bytes after it

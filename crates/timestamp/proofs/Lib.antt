@@ -2,7 +2,6 @@
 pub mod Shapes
 pub mod Agreement
 pub mod SiteAgrees
-pub mod TwoDigits
 pub mod Dates
 pub mod Times
 pub mod Nanos

@@ -14,7 +14,7 @@ use Rattle.text.specs.Digits.{digitOf}
 use Rattle.text.specs.Utf8.{utf8}
 use Rattle.text.proofs.Bools.{by-test}
 use Rattle.timestamp.specs.Answer.{Moment, moment, dayOf, timeOf, isSeparator, afterDate, onTime, onDate, plainMoment, inNanos, instant}
-use Rattle.timestamp.proofs.TwoDigits.{sign-test}
+use Rattle.text.proofs.TwoDigits.{sign-test}
 
 -- ---- after a date with the day number z
 

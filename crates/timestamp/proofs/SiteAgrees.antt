@@ -15,11 +15,11 @@ use lib.IntN.{ℤ}
 use borrow.Author.Tests.{eqb-true, eqb-false, ne-eqb, eq-eqb, le-leb, leb-true}
 use Rattle.number.specs.Widths.{inSigned}
 use Rattle.refusal.specs.Outcome.{Outcome, accepted, refused, andThen}
-use Rattle.text.specs.Digits.{isDigit, digits, value}
+use Rattle.text.specs.Digits.{isDigit, digits, value, twoDigits, twoAt}
 use Rattle.text.proofs.Bools.{and-left, and-right, or-cases, by-test, both-ways}
 use Rattle.timestamp.specs.Clock.{Clock, clock, sinceMidnight}
 use Rattle.timestamp.specs.Grammar.{Figures, figures, Ymd, FullDate, Secfrac, no-fraction, fraction, PartialTime, colons, basic, Separator, capital, small, space, Ending, none-given, capital-z, small-z, Stamp, date-alone, date-time}
-use Rattle.timestamp.specs.Answer.{twoDigits, twoAt, hasColons, moment, instant, stampNanos}
+use Rattle.timestamp.specs.Answer.{hasColons, moment, instant, stampNanos}
 use Rattle.timestamp.specs.Meaning.{Names, names, Reads, reads}
 use Rattle.timestamp.specs.Site.{SiteStamp, site, SiteReads, site-reads, isLeap, isSite, siteNanos}
 use Rattle.timestamp.proofs.Shapes.{by-two, two-value, not-sign, size-of, last-of, seconds-end}

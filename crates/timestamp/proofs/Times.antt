@@ -9,11 +9,11 @@ use lib.Dec.{ltb, leb, eqb, lit<}
 use lib.ListN.{getD, drop, length, length-drop}
 use lib.Seq.{drop-drop}
 use borrow.Author.Tests.{not-true, not-false}
-use Rattle.text.specs.Digits.{isDigit, digitOf}
+use Rattle.text.specs.Digits.{isDigit, digitOf, twoDigits}
 use Rattle.text.proofs.Bools.{and-false}
 use Rattle.timestamp.specs.Clock.{nanosFrom}
-use Rattle.timestamp.specs.Answer.{twoDigits, hasColons, isBasic, afterSeconds, basicTime, timedAt, timeOf}
-use Rattle.timestamp.proofs.TwoDigits.{twoOr, past-end, two-test, two-is, sign-test, digit-test, all-five}
+use Rattle.timestamp.specs.Answer.{hasColons, isBasic, afterSeconds, basicTime, timedAt, timeOf}
+use Rattle.text.proofs.TwoDigits.{twoOr, past-end, two-test, two-is, sign-test, digit-test, all-five}
 
 -- ---- with colons: hour, minute and second are the numbers at their places, and a and b the bytes between
 

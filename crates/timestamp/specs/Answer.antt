@@ -10,20 +10,13 @@ use lib.IntN.{ℤ, pos, _+ℤ_, _*ℤ_}
 use Rattle.calendar.specs.Calendar.{civil}
 use Rattle.number.specs.Widths.{inSigned}
 use Rattle.refusal.specs.Outcome.{Outcome, accepted, refused, because, inUtf8, andThen}
-use Rattle.text.specs.Digits.{isDigit, worth, run}
+use Rattle.text.specs.Digits.{isDigit, twoDigits, twoAt, run}
 use Rattle.timestamp.specs.declared.DateTime.{DateTime}
 use Rattle.timestamp.specs.declared.DateTime.the-variants.{At as Moment·At, Refused as Moment·Refused}
 use Rattle.timestamp.specs.declared.NaiveDateTime.{NaiveDateTime}
 use Rattle.timestamp.specs.declared.TimeAndEnd.{TimeAndEnd}
 use Rattle.timestamp.specs.declared.TimeAndEnd.the-variants.{At as Ends, None as NoTime}
 use Rattle.timestamp.specs.Clock.{inRange, nanosOf, nanosOfDay}
-
--- two digits at a place, and their number; past the end of a text is a 0, which is no digit and no sign of the grammar
-abbrev pub twoDigits : List ℕ → ℕ → Bool
-twoDigits t i = isDigit (getD t i 0) && isDigit (getD t (i + 1) 0)
-
-abbrev pub twoAt : List ℕ → ℕ → ℕ
-twoAt t i = worth (getD t i 0) * 10 + worth (getD t (i + 1) 0)
 
 -- the text begins with yyyy-mm-dd
 abbrev pub isDate : List ℕ → Bool

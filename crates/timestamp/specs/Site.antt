@@ -12,10 +12,10 @@ use lib.IntN.{ℤ, pos}
 use Rattle.calendar.specs.Calendar.{civil}
 use Rattle.number.specs.Widths.{inSigned}
 use Rattle.refusal.specs.Outcome.{Outcome, accepted, refused, andThen}
-use Rattle.text.specs.Digits.{value}
+use Rattle.text.specs.Digits.{value, twoAt}
 use Rattle.timestamp.specs.Clock.{Clock, clock, inRange, sinceMidnight}
 use Rattle.timestamp.specs.Grammar.{Figures, Ymd, FullDate, Secfrac}
-use Rattle.timestamp.specs.Answer.{twoAt, hasColons, moment, instant, stampNanos}
+use Rattle.timestamp.specs.Answer.{hasColons, moment, instant, stampNanos}
 
 -- a text and the date and the time that it writes
 pub data SiteStamp : List ℕ → Ymd → Clock → Type 0 where

@@ -3,6 +3,7 @@ use refusal::Refusal;
 
 pub mod clock;
 mod parser;
+pub mod site;
 pub mod stamp;
 
 // A time of day: seconds since midnight, and nanoseconds. Second 60 is second 59 with 1,000,000,000 added to the nanoseconds.

@@ -4,13 +4,13 @@ use crate::TimeAndEnd;
 use crate::clock;
 use calendar::Day;
 use text::digits::digit;
+use text::digits::two;
 use text::white::byte_at;
 ghost use mathlib.Core.Path.{_≡_};
-ghost use mathlib.Core.Bool.{cond};
 ghost use Prim.Native.Nat.{_+_, _≤_, _<_};
 ghost use lib.ListN.{length, drop};
 ghost use Rattle.calendar.specs.Calendar.{day};
-ghost use Rattle.timestamp.specs.Answer.{twoDigits, twoAt, dayOf, basicTime, afterSeconds, timeOf, timedAt, endsAt};
+ghost use Rattle.timestamp.specs.Answer.{dayOf, basicTime, afterSeconds, timeOf, timedAt, endsAt};
 
 // The separators as digits: each byte less 48, wrapping.
 const HYPHEN: u8 = 253;
@@ -18,22 +18,6 @@ const HYPHEN: u8 = 253;
 const COLON: u8 = 10;
 
 const POINT: u8 = 254;
-
-// The number of the two digits at a place, and 255 where one of them is no digit.
-pub fn two(s: &[u8], at: usize) -> u8
-    requires { ⌜ at + 1 < length (now s) ⌝ }
-    ensures { λ r. ⌜ r ≡ cond (twoDigits (now (s .entry)) at) (twoAt (now (s .entry)) at) 255 ⌝ }
-{
-    let a = digit(s[at]);
-    let b = digit(s[at + 1]);
-    if 10 <= a {
-        return 255;
-    }
-    if 10 <= b {
-        return 255;
-    }
-    a * 10 + b
-}
 
 // Parses a date of the form `1997-01-31`.
 pub fn date(s: &[u8]) -> Day
