@@ -10,9 +10,13 @@ use lib.IntN.{ℤ, pos, negsuc}
 use Rattle.calendar.specs.Calendar.{civil}
 use Rattle.number.specs.Widths.{inSigned}
 use Rattle.number.specs.Decimal.{integer}
-use Rattle.refusal.specs.Outcome.{Outcome, accepted, refused, inUtf8, andThen}
+use Rattle.refusal.specs.Outcome.{Outcome, accepted, refused, because, inUtf8, andThen}
 use Rattle.text.specs.Digits.{isDigit, worth, twoDigits, twoAt}
 use Rattle.timestamp.specs.Answer.{Moment, plainMoment}
+use Rattle.date.specs.declared.Named.{Named}
+use Rattle.date.specs.declared.Named.the-variants.{Day as NamedDay, Refused as NamedRefused}
+use Rattle.date.specs.declared.Ymd.{Ymd}
+use Rattle.date.specs.declared.Ymd.the-variants.{Of as YmdOf, None as NoYmd}
 use Rattle.date.specs.Grammar.{noDigits}
 
 abbrev pub isSign : ℕ → Bool
@@ -113,3 +117,13 @@ inDays z = cond (inSigned 31 z) (accepted z) (refused 6)
 -- days since 1970-01-01
 abbrev pub dateDays : List ℕ → Outcome ℤ
 dateDays t = andThen (dayNamed t) inDays
+
+-- ---- what the answers of the code say
+
+abbrev pub ymdIs : Ymd → Option Numbers
+ymdIs (YmdOf y m d) = some (record { year = y; month = m; day = d })
+ymdIs NoYmd = none
+
+abbrev pub namedIs : Named → Outcome ℤ
+namedIs (NamedDay z) = accepted z
+namedIs (NamedRefused why) = because why

@@ -13,6 +13,7 @@ use borrow.Author.Tests.{leb-true, leb-false, lt-ltb, eqb-true, eqb-false, eq-eq
 use Rattle.text.specs.Digits.{isDigit, digitOf, twoDigits, twoAt}
 use Rattle.text.proofs.Bools.{and-left, and-right, and-false, by-test, within-is}
 use Rattle.text.proofs.DigitLaws.{is-digit, no-digit, is-worth}
+
 -- ---- a byte b: the sign with the byte s, as a digit k, and a digit
 
 pub sign : (b k s : ℕ) → b < 256 → s < 256 → k ≡ digitOf s → eqb (digitOf b) k ≡ eqb b s

@@ -23,7 +23,9 @@ use Rattle.timestamp.proofs.Shapes.{all-digits, digits-head, by-one, by-two, on
 use Rattle.timestamp.proofs.Agreement.{clash, none-some, both, ascii-figures, ascii-secfrac}
 use Rattle.time.specs.Grammar.{Hour, one, two, Written, minutes, seconds, Letter, upper, lower, TimeOfDay, full, Reads, reads}
 use Rattle.time.specs.Grammar as Grammar
-use Rattle.time.specs.Answer.{isLetter, Half, am, pm, neither, halfOf, half, body, hourOf, inDay, fractionOf, withFraction, afterMinutes, afterHour, fromHour, timeOfDay, onTime, timeNanos}
+use Rattle.time.specs.declared.Half.{Half}
+use Rattle.time.specs.declared.Half.the-variants.{Am as am, Pm as pm, Neither as neither}
+use Rattle.time.specs.Answer.{isLetter, halfOf, half, body, hourOf, inDay, fractionOf, withFraction, afterMinutes, afterHour, fromHour, timeOfDay, onTime, timeNanos}
 
 -- ---- a time without AM or PM is read
 

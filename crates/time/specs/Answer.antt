@@ -10,33 +10,37 @@ use lib.IntN.{ℤ, pos}
 use Rattle.refusal.specs.Outcome.{Outcome, accepted, refused, inUtf8}
 use Rattle.text.specs.Digits.{isDigit, worth, digits, twoDigits, twoAt}
 use Rattle.timestamp.specs.Clock.{inRange, nanosOf}
+use Rattle.time.specs.declared.Fraction.{Fraction}
+use Rattle.time.specs.declared.Fraction.the-variants.{Of as Nanos, None as NoFraction}
+use Rattle.time.specs.declared.Half.{Half}
+use Rattle.time.specs.declared.Half.the-variants.{Am, Pm, Neither}
+use Rattle.time.specs.declared.Hour.{Hour}
+use Rattle.time.specs.declared.Hour.the-variants.{Of as HourOf, None as NoHour}
+
 -- a letter in either case
 abbrev pub isLetter : ℕ → ℕ → Bool
 isLetter capital b = eqb b capital || eqb b (capital + 0x20)
 
--- the twelve hours that a text ends with: one space and AM or PM
-pub data Half : Type 0 where
-  am pm neither : Half
-
+-- the half of the day that three bytes name: one space and AM or PM
 abbrev pub halfOf : ℕ → ℕ → ℕ → Half
 halfOf s a m =
-    cond (eqb s 0x20 && isLetter 0x4D m) (cond (isLetter 0x41 a) am (cond (isLetter 0x50 a) pm neither)) neither
+    cond (eqb s 0x20 && isLetter 0x4D m) (cond (isLetter 0x41 a) Am (cond (isLetter 0x50 a) Pm Neither)) Neither
 
 -- of the last three bytes; a text of fewer than 4 bytes is none
 abbrev pub half : List ℕ → Half
-half t = cond (ltb (length t) 4) neither (halfOf (getD t (length t - 3) 0) (getD t (length t - 2) 0) (getD t (length t - 1) 0))
+half t = cond (ltb (length t) 4) Neither (halfOf (getD t (length t - 3) 0) (getD t (length t - 2) 0) (getD t (length t - 1) 0))
 
 -- the text without that ending
 abbrev pub body : Half → List ℕ → List ℕ
-body am t = take (length t - 3) t
-body pm t = take (length t - 3) t
-body neither t = t
+body Am t = take (length t - 3) t
+body Pm t = take (length t - 3) t
+body Neither t = t
 
 -- the hour of the day
 abbrev pub hourOf : Half → ℕ → Option ℕ
-hourOf am h = cond (leb 1 h && leb h 12) (some (h % 12)) none
-hourOf pm h = cond (leb 1 h && leb h 12) (some (h % 12 + 12)) none
-hourOf neither h = some h
+hourOf Am h = cond (leb 1 h && leb h 12) (some (h % 12)) none
+hourOf Pm h = cond (leb 1 h && leb h 12) (some (h % 12 + 12)) none
+hourOf Neither h = some h
 
 -- nanoseconds since midnight, if the fields are in range
 abbrev pub inDay : ℕ → ℕ → ℕ → Option ℕ → Option ℕ
@@ -80,3 +84,13 @@ onTime (some n) = accepted (pos n)
 
 abbrev pub timeNanos : List ℕ → Outcome ℤ
 timeNanos t = inUtf8 t (onTime (timeOfDay t))
+
+-- ---- what the answers of the code say
+
+abbrev pub hourIs : Hour → Option ℕ
+hourIs (HourOf h) = some h
+hourIs NoHour = none
+
+abbrev pub fractionIs : Fraction → Option ℕ
+fractionIs (Nanos n) = some n
+fractionIs NoFraction = none

@@ -2,6 +2,7 @@
 pub mod Shapes
 pub mod Agreement
 pub mod SiteAgrees
+pub mod SiteTests
 pub mod Dates
 pub mod Times
 pub mod Nanos

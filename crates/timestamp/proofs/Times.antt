@@ -29,7 +29,7 @@ abbrev pub colonsTest : ℕ → ℕ → ℕ → ℕ → ℕ → Bool
 colonsTest h a m b x = ltb h 100 && (eqb a 10 && (ltb m 100 && (eqb b 10 && ltb x 100)))
 
 module _ {s : List ℕ} {h a m b x : ℕ} (fits : (i : ℕ) → getD s i 0 < 256) (r : ColonsRead s h a m b x) where
-  colons : colonsTest h a m b x ≡ hasColons (drop 11 s)
+  pub colons : colonsTest h a m b x ≡ hasColons (drop 11 s)
   colons =
       rw (
         two-test 11 s 0 (r .hour),
@@ -89,9 +89,12 @@ module _ {s : List ℕ} {h m x a b : ℕ} (fits : (i : ℕ) → getD s i 0 < 256
 
 module _ (s : List ℕ) where
   -- no place for the seconds after colons
+  pub cut-short : length s < 19 → hasColons (drop 11 s) ≡ false
+  cut-short h = simp (past-end (drop 11 s) 6 (omega (arith, length-drop 11 s)), and-false)
+
   pub short-of-colons : length s < 19 → basicTime (drop 11 s) ≡ timeOf (drop 11 s)
   unfolding timeOf
-  short-of-colons h = simp (past-end (drop 11 s) 6 (omega (arith, length-drop 11 s)), and-false)
+  short-of-colons h = rw (cut-short h)
 
   -- and none without colons
   basic-cut : length s < 17 → none ≡ basicTime (drop 11 s)

@@ -1,66 +1,68 @@
+-- `timestamp::site::is_site` meets its contract, by the laws of a site stamp's tests. Assumes nothing.
+use mathlib.Core.Path.{_≡_}
+use Rattle.timestamp.proofs.SiteTests.{site-test, too-short}
 use borrow.Author.Needs.{needs}
 use Rattle.timestamp.proofs.site.is_site.Statement.{statement}
 use Rattle.timestamp.proofs.site.is_site.Tie as tie
-use Rattle.timestamp.proofs.site.is_site.Reads as reads
-use Rattle.timestamp.proofs.site.is_site.Lts as lts
-use Rattle.text.proofs.digits.digit.Reads as digit-reads
-use Rattle.text.proofs.digits.two.Reads as two-reads
 
--- src/site.rt:45:9
 returns : tie.Need-returns
-returns c = ?
+returns c = too-short (c .before .before .args .s .now) (c .if1 .taken)
 
--- src/site.rt:47:9
 two-requires : tie.Need-two-requires
 two-requires c κs = search needs
 
--- src/site.rt:48:9
 two-requires-2 : tie.Need-two-requires-2
 two-requires-2 c κs = search needs
 
--- src/site.rt:49:9
 two-requires-3 : tie.Need-two-requires-3
 two-requires-3 c κs = search needs
 
--- src/site.rt:51:19
 shared-slice-read-digit : tie.Need-shared-slice-read-digit
 shared-slice-read-digit c = search needs
 
--- src/site.rt:51:13
 digit-requires : tie.Need-digit-requires
 digit-requires c κs = search needs
 
--- src/site.rt:51:64
 shared-slice-read-digit-2 : tie.Need-shared-slice-read-digit-2
 shared-slice-read-digit-2 c = search needs
 
--- src/site.rt:51:58
 digit-requires-2 : tie.Need-digit-requires-2
 digit-requires-2 c κs = search needs
 
--- src/site.rt:53:12
 shared-slice-read-digit-3 : tie.Need-shared-slice-read-digit-3
 shared-slice-read-digit-3 c = search needs
 
--- src/site.rt:53:6
 digit-requires-3 : tie.Need-digit-requires-3
 digit-requires-3 c κs = search needs
 
--- src/site.rt:53:68
 sub-digit : tie.Need-sub-digit
 sub-digit c = search needs
 
--- src/site.rt:53:66
 shared-slice-read-digit-4 : tie.Need-shared-slice-read-digit-4
 shared-slice-read-digit-4 c = search needs
 
--- src/site.rt:53:60
 digit-requires-4 : tie.Need-digit-requires-4
 digit-requires-4 c κs = search needs
 
--- src/site.rt:40:1
 returns-2 : tie.Need-returns-2
-returns-2 c = ?
+returns-2 c =
+    let d = c .before .before in
+    let e = d .before .before in
+    let f = e .before .before in
+    let k = f .before .before in
+    site-test (λ i. k .before .before .before .before .shared-slice-known .given i .fits)
+    (record {
+      time =
+          record {
+            hour = k .before .before .two .ensures;
+            first = f .digit .ensures;
+            minute = k .before .two2 .ensures;
+            second = e .digit2 .ensures;
+            seconds = k .two3 .ensures;
+          };
+      separator = d .digit3 .ensures;
+      last = c .digit4 .ensures;
+    })
 
 pub is-site-spec : {M : Type 1} → statement M
 is-site-spec =

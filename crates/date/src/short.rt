@@ -1,0 +1,97 @@
+// The unsigned forms of at most 10 bytes: `20200101`, `2020-01-01`, `2020-1-1`.
+use calendar::Day;
+use text::digits::digit;
+use text::digits::two;
+use text::white::byte_at;
+ghost use mathlib.Core.Path.{_≡_};
+ghost use Prim.Native.Nat.{_+_, _*_, _<_, _≤_};
+ghost use lib.ListN.{length, drop};
+ghost use lib.IntN.{pos};
+ghost use Rattle.calendar.specs.Calendar.{civil, day};
+ghost use Rattle.date.specs.Grammar.{noDigits};
+ghost use Rattle.date.specs.Answer.{compactDay, lastDay, hyphenDay, shortDay};
+
+// The hyphen as a digit: each byte less 48, wrapping.
+const HYPHEN: u8 = 253;
+
+pub fn short_day(s: &[u8]) -> Day
+    ensures { λ r. ⌜ day r ≡ shortDay (now (s .entry)) ⌝ }
+{
+    if digit(byte_at(s, 4)) == HYPHEN {
+        hyphen_day(s)
+    } else {
+        compact_day(s)
+    }
+}
+
+// yyyymmdd
+fn compact_day(s: &[u8]) -> Day
+    ensures { λ r. ⌜ day r ≡ compactDay (now (s .entry)) ⌝ }
+{
+    let century = two(s, 0);
+    let year = two(s, 2);
+    let month = two(s, 4);
+    let day_of_month = two(s, 6);
+    let shape = (s.len() == 8)
+        & (((century < 100) & (year < 100)) & ((month < 100) & (day_of_month < 100)));
+    if !shape {
+        return Day::None;
+    }
+    of_fields(century, year, month, day_of_month)
+}
+
+// yyyy-m-d, with one or two digits for the month and the day.
+fn hyphen_day(s: &[u8]) -> Day
+    ensures { λ r. ⌜ day r ≡ hyphenDay (now (s .entry)) ⌝ }
+{
+    let century = two(s, 0);
+    let year = two(s, 2);
+    let four = (century < 100) & (year < 100);
+    let month = two(s, 5);
+    if four & ((month < 100) & (digit(byte_at(s, 7)) == HYPHEN)) {
+        return last_day(s, 8, century, year, month);
+    }
+    let one = digit(byte_at(s, 5));
+    if four & ((one < 10) & (digit(byte_at(s, 6)) == HYPHEN)) {
+        return last_day(s, 7, century, year, one);
+    }
+    Day::None
+}
+
+// One or two digits from a place on, and no digit after them.
+fn last_day(s: &[u8], at: usize, century: u8, year: u8, month: u8) -> Day
+    requires { ⌜ (at ≤ 8) × ((century < 100) × (year < 100)) ⌝ }
+    ensures { λ r. ⌜ day r ≡ lastDay (pos (century * 100 + year)) month (drop at (now (s .entry))) ⌝ }
+{
+    let both = two(s, at);
+    if (both < 100) & no_digits(s, at + 2) {
+        return of_fields(century, year, month, both);
+    }
+    let one = digit(byte_at(s, at));
+    if (one < 10) & no_digits(s, at + 1) {
+        return of_fields(century, year, month, one);
+    }
+    Day::None
+}
+
+fn of_fields(century: u8, year: u8, month: u8, day_of_month: u8) -> Day
+    requires { ⌜ (century < 100) × (year < 100) ⌝ }
+    ensures { λ r. ⌜ day r ≡ civil (pos (century * 100 + year)) month «day_of_month» ⌝ }
+{
+    let whole_year = century as u32 * 100 + year as u32;
+    calendar::days_from_ymd(whole_year as i32, month as u32, day_of_month as u32)
+}
+
+// No byte from a place on is a digit.
+fn no_digits(s: &[u8], from: usize) -> bool
+    ensures { λ r. ⌜ r ≡ noDigits (drop from (now (s .entry))) ⌝ }
+{
+    let mut i = from;
+    while i < s.len() {
+        if digit(s[i]) < 10 {
+            return false;
+        }
+        i += 1;
+    }
+    true
+}
