@@ -10,3 +10,4 @@ pub mod Instants
 pub mod Fractions
 pub mod Endings
 pub mod Outcomes
+pub mod Bounds
