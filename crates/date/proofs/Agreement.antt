@@ -120,13 +120,13 @@ compact-read y m d p q r =
 
 -- ---- a date of the grammar is accepted
 
-first-digit : (b : ℕ) → isDigit b ≡ true → isSign b ≡ false
+pub first-digit : (b : ℕ) → isDigit b ≡ true → isSign b ≡ false
 first-digit b e = rw (not-sign b 0x2B e (inl (omega arith)), not-sign b 0x2D e (inl (omega arith)))
 
 four-first : {y : List ℕ} → Figures 4 y → (r : List ℕ) → isSign (getD (y ++ r) 0 0) ≡ false
 four-first {y} p r = by-four (λ y. isSign (getD (y ++ r) 0 0) ≡ false) (λ a b c d fa fb fc fd. first-digit a fa) y p
 
-is-sign : {s : ℕ} → Sign s → isSign s ≡ true
+pub is-sign : {s : ℕ} → Sign s → isSign s ≡ true
 is-sign Grammar.plus = refl
 is-sign Grammar.minus = refl
 

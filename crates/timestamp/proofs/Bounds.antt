@@ -46,7 +46,7 @@ nanos-most [] u e = omega arith
 nanos-most (b ∷ f) u e =
     omega (arith, mul-le-mul-right u (small b (and-left (isDigit b) (digits f) e)), nanos-most f (u / 10) (and-right (isDigit b) (digits f) e))
 
-secfrac-most : {x f : List ℕ} → Secfrac x f → nanosOf f ≤ 1000000000
+pub secfrac-most : {x f : List ℕ} → Secfrac x f → nanosOf f ≤ 1000000000
 unfolding nanosFrom
 secfrac-most no-fraction = omega arith
 secfrac-most (fraction {b} {f} p q) = nanos-most (b ∷ f) 100000000 (all-digits b f p q)
