@@ -1,7 +1,7 @@
 -- A time of day from the values that the code has of its bytes: seconds, minutes, hour, AM or PM, and all fields in range. Assumes nothing.
 use mathlib.Core.Path.{_≡_, refl, sym, ap, _∙_}
 use mathlib.Core.Bool.{Bool, true, false, cond, not, _&&_}
-use mathlib.Core.List.{List, _∷_}
+use mathlib.Core.List.{List}
 use mathlib.Core.Option.{Option, none, some}
 use Prim.Native.Nat.{ℕ, suc, _+_, _*_, _≤_, _<_}
 use native.Mathlib.Omega.{arith}
@@ -13,7 +13,7 @@ use borrow.Author.Tests.{not-true, not-false, lt-ltb, le-ltb, ltb-true, ltb-fals
 use Rattle.text.specs.Digits.{isDigit, digitOf, twoDigits}
 use Rattle.text.proofs.Bools.{and-left, and-right, by-test}
 use Rattle.text.proofs.DigitLaws.{is-digit, no-digit, is-worth}
-use Rattle.text.proofs.TwoDigits.{sign, twoOr, two-test, two-is, sign-test}
+use Rattle.text.proofs.TwoDigits.{sign, twoOr, two-test, two-is}
 use Rattle.timestamp.specs.Clock.{inRange}
 use Rattle.time.specs.declared.Half.{Half}
 use Rattle.time.specs.Answer.{half, body, hourOf, inDay, fractionOf, withFraction, afterMinutes, afterHour, fromHour, timeOfDay}

@@ -1,7 +1,7 @@
 -- `time::after_hour` meets its contract, by the laws of two minute digits. Assumes nothing.
 use mathlib.Core.Path.{_∙_}
-use Rattle.time.proofs.Fields.{no-minutes, with-minutes}
 use borrow.Author.Needs.{needs}
+use Rattle.time.proofs.Fields.{no-minutes, with-minutes}
 use Rattle.time.proofs.after_hour.Statement.{statement}
 use Rattle.time.proofs.after_hour.Tie as tie
 

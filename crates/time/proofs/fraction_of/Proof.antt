@@ -1,6 +1,6 @@
 -- `time::fraction_of` meets its contract, by the laws of what follows the seconds. Assumes nothing.
-use Rattle.time.proofs.Fractions.{no-fraction, no-point, point-alone, bytes-after, whole-fraction}
 use borrow.Author.Needs.{needs}
+use Rattle.time.proofs.Fractions.{no-fraction, no-point, point-alone, bytes-after, whole-fraction}
 use Rattle.time.proofs.fraction_of.Statement.{statement}
 use Rattle.time.proofs.fraction_of.Tie as tie
 

@@ -1,9 +1,9 @@
 -- `time::from_hour` meets its contract, by the laws of one and of two hour digits. Assumes nothing.
 use mathlib.Core.Path.{_≡_, ap, _∙_}
 use lib.ListN.{getD}
+use borrow.Author.Needs.{needs}
 use Rattle.text.specs.Digits.{digitOf}
 use Rattle.time.proofs.Fields.{one-digit, two-digits, no-hour}
-use borrow.Author.Needs.{needs}
 use Rattle.time.proofs.from_hour.Statement.{statement}
 use Rattle.time.proofs.from_hour.Tie as tie
 

@@ -1,6 +1,6 @@
 -- `time::half_of` meets its contract: its tests are the definition's. Assumes nothing.
-use mathlib.Core.Bool.{true, _&&_}
 use mathlib.Core.Path.{_≡_}
+use mathlib.Core.Bool.{true, _&&_}
 use lib.Dec.{eqb}
 use borrow.Author.Tests.{not-true, not-false}
 use Rattle.time.specs.Answer.{isLetter}

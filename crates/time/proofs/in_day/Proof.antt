@@ -1,7 +1,7 @@
 -- `time::in_day` meets its contract, by the law of a clock's fields. Assumes nothing.
 use mathlib.Core.Path.{_∙_}
-use Rattle.time.proofs.Fields.{of-clock}
 use borrow.Author.Needs.{needs}
+use Rattle.time.proofs.Fields.{of-clock}
 use Rattle.time.proofs.in_day.Statement.{statement}
 use Rattle.time.proofs.in_day.Tie as tie
 

@@ -1,9 +1,9 @@
 -- `time::string_to_time` meets its contract, by the law of the half of the day. Assumes nothing.
-use mathlib.Core.Path.{_≡_, sym, ap, _∙_}
-use Rattle.time.specs.declared.Half.the-variants.{Am, Pm, Neither}
+use mathlib.Core.Path.{sym, ap, _∙_}
+use borrow.Author.Needs.{needs}
+use Rattle.time.specs.declared.Half.the-variants.{Am, Pm}
 use Rattle.time.specs.Answer.{fromHour}
 use Rattle.time.proofs.Fields.{by-half}
-use borrow.Author.Needs.{needs}
 use Rattle.time.proofs.string_to_time.Statement.{statement}
 use Rattle.time.proofs.string_to_time.Tie as tie
 

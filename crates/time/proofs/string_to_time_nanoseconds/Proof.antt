@@ -3,11 +3,11 @@ use mathlib.Core.Path.{_≡_, sym, ap, _∙_}
 use mathlib.Core.Option.{some}
 use mir.Syntax.{w64}
 use mir.Facts.{toZ-ofZ}
+use borrow.Author.Needs.{needs}
 use Rattle.timestamp.specs.Clock.{nanosOfDay, timeIs}
 use Rattle.timestamp.proofs.Outcomes.{refused-in}
 use Rattle.time.specs.Answer.{timeOfDay, onTime}
 use Rattle.time.proofs.Agreement.{read-utf8}
-use borrow.Author.Needs.{needs}
 use Rattle.time.proofs.string_to_time_nanoseconds.Statement.{statement}
 use Rattle.time.proofs.string_to_time_nanoseconds.Tie as tie
 
