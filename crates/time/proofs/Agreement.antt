@@ -1,9 +1,9 @@
 -- The grammar of times of day and the computation agree: a text is read as a number of nanoseconds exactly where the computation accepts it
 -- with that number; it has at most one reading. Assumes nothing.
 use mathlib.Core.Path.{_≡_, refl, sym, ap, _∙_, subst}
-use mathlib.Core.Bool.{Bool, true, false, cond, _&&_, _||_, false≢true}
-use mathlib.Core.Logic.{_⊎_, inl, inr, ⊎-elim, _↔_}
-use mathlib.Core.List.{List, [], _∷_, _++_, append-nil}
+use mathlib.Core.Bool.{Bool, true, false, cond, _&&_}
+use mathlib.Core.Logic.{inr, ⊎-elim, _↔_}
+use mathlib.Core.List.{List, [], _∷_, _++_}
 use mathlib.Core.Option.{Option, none, some}
 use Prim.Native.Nat.{ℕ, suc, _+_, _-_, _*_, _%_, _≤_, _<_}
 use native.Mathlib.Omega.{arith}
@@ -11,21 +11,21 @@ use lib.Dec.{eqb, leb, ltb, lit<}
 use lib.ListN.{length, getD, take, drop, length-append, take-append-drop, drop-of-length-le}
 use lib.Seq.{take-at, drop-cons, getD-append-add}
 use lib.IntN.{ℤ, pos}
-use borrow.Author.Tests.{eqb-true, ne-eqb, le-leb, leb-true, le-ltb, ltb-false}
-use Rattle.refusal.specs.Outcome.{Outcome, accepted, refused}
-use Rattle.text.specs.Digits.{isDigit, worth, digits, value, twoDigits, twoAt}
+use borrow.Author.Tests.{eqb-true, le-leb, leb-true, le-ltb, ltb-false}
+use Rattle.refusal.specs.Outcome.{accepted}
+use Rattle.text.specs.Digits.{isDigit, worth, digits, value, twoDigits}
 use Rattle.text.specs.Utf8.{utf8}
 use Rattle.text.proofs.Bools.{and-left, and-right, and-false, or-cases, by-test}
-use Rattle.text.proofs.Ascii.{ascii, ascii-nil, ascii-cons, ascii-append, ascii-digits, ascii-utf8}
+use Rattle.text.proofs.Ascii.{ascii, ascii-nil, ascii-cons, ascii-append, ascii-utf8}
 use Rattle.timestamp.specs.Clock.{Clock, clock, inRange, nanosFrom, nanosOf, sinceMidnight}
-use Rattle.timestamp.specs.Grammar.{Figures, figures, Secfrac, no-fraction, fraction}
+use Rattle.timestamp.specs.Grammar.{Figures, Secfrac, no-fraction, fraction}
 use Rattle.timestamp.proofs.Shapes.{all-digits, digits-head, by-one, by-two, one-figure, two-figures, one-value, two-value, not-sign, size-of, last-of, last-figure, seconds-end}
 use Rattle.timestamp.proofs.Agreement.{clash, none-some, both, ascii-figures, ascii-secfrac}
 use Rattle.time.specs.Grammar.{Hour, one, two, Written, minutes, seconds, Letter, upper, lower, TimeOfDay, full, Reads, reads}
 use Rattle.time.specs.Grammar as Grammar
 use Rattle.time.specs.declared.Half.{Half}
 use Rattle.time.specs.declared.Half.the-variants.{Am as am, Pm as pm, Neither as neither}
-use Rattle.time.specs.Answer.{isLetter, halfOf, half, body, hourOf, inDay, fractionOf, withFraction, afterMinutes, afterHour, fromHour, timeOfDay, onTime, timeNanos}
+use Rattle.time.specs.Answer.{isLetter, halfOf, half, hourOf, inDay, fractionOf, withFraction, afterMinutes, afterHour, fromHour, timeOfDay, onTime, timeNanos}
 
 -- ---- a time without AM or PM is read
 
