@@ -1,2 +1,5 @@
 -- Laws that belong to no one function.
 pub mod Agreement
+pub mod Hyphens
+pub mod Shapes
+pub mod Outcomes
