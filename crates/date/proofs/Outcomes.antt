@@ -1,0 +1,43 @@
+-- Answers put together: of a text by its first byte and its length, and in days. Assumes nothing.
+use mathlib.Core.Path.{_≡_, ap}
+use mathlib.Core.Bool.{true, false}
+use mathlib.Core.List.{List}
+use Prim.Native.Nat.{ℕ, _≤_, _<_}
+use lib.ListN.{getD, length}
+use lib.IntN.{ℤ}
+use borrow.Author.Tests.{le-leb, lt-leb}
+use Rattle.number.specs.Widths.{inSigned, fit}
+use Rattle.refusal.specs.Outcome.{Outcome, accepted, inUtf8, andThen}
+use Rattle.text.specs.Utf8.{utf8}
+use Rattle.text.proofs.Bools.{by-test}
+use Rattle.timestamp.specs.Answer.{Moment, datetime, plainMoment}
+use Rattle.timestamp.proofs.Outcomes.{orRange}
+use Rattle.date.specs.Answer.{isSign, signedDay, shortDay, onDay, plainDay, dayNamed, inDays}
+
+-- ---- in days
+
+pub in-range : (z : ℤ) → orRange (fit 31 z) ≡ inDays z
+in-range z = by-test (inSigned 31 z) (λ e. rw e) (λ e. rw e)
+
+pub onward : {o p : Outcome ℤ} → o ≡ p → andThen o inDays ≡ andThen p inDays
+onward e = ap (λ (o : Outcome ℤ). andThen o inDays) e
+
+-- ---- the day of a moment
+
+abbrev pub itsDay : Outcome Moment → Outcome ℤ
+itsDay o = andThen o (λ x. accepted (x .day))
+
+-- ---- the three forms
+
+module _ (s : List ℕ) where
+  pub signed-form : isSign (getD s 0 0) ≡ true → inUtf8 s (onDay (signedDay s)) ≡ dayNamed s
+  unfolding plainDay
+  signed-form e = rw e
+
+  pub short-form : isSign (getD s 0 0) ≡ false → length s ≤ 10 → inUtf8 s (onDay (shortDay s)) ≡ dayNamed s
+  unfolding plainDay
+  short-form e l = rw (e, le-leb (length s) 10 l)
+
+  pub stamp-form : isSign (getD s 0 0) ≡ false → 10 < length s → itsDay (datetime s) ≡ dayNamed s
+  unfolding plainDay
+  stamp-form e l = rw (e, lt-leb (length s) 10 l) (by-test (utf8 s) (λ u. rw u) (λ u. rw u))
