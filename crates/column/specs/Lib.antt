@@ -1,2 +1,3 @@
--- What the contracts of `column` cite.
+-- The ten column types, and what the answers of the code say.
 pub mod Columns
+pub mod Found

@@ -14,7 +14,7 @@ use Rattle.number.proofs.Zed.{P, N, add-pn, mul-P, mul-N, P-neg, N-neg, le-yes,
 use Rattle.number.proofs.Ranges.{rd, fit-above, fit-below}
 
 -- k times z, and q more, as P and N have it
-sum-of : (z : ℤ) (k q : ℕ) → P (z *ℤ pos k +ℤ pos q) + N z * k ≡ N (z *ℤ pos k +ℤ pos q) + (P z * k + q)
+pub sum-of : (z : ℤ) (k q : ℕ) → P (z *ℤ pos k +ℤ pos q) + N z * k ≡ N (z *ℤ pos k +ℤ pos q) + (P z * k + q)
 sum-of z k q = omega (arith, add-pn (z *ℤ pos k) (pos q), mul-P z k, mul-N z k)
 
 -- ---- z seconds, of which the code has the size m, and p nanoseconds

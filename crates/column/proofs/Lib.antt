@@ -1,0 +1,5 @@
+-- Laws that belong to no one function.
+pub mod Millis
+pub mod Outcomes
+pub mod Ranges
+pub mod Widths32

@@ -1,0 +1,52 @@
+-- `column::stamps::nanos` meets its contract, by the laws of a text as given and trimmed. Assumes nothing.
+use mathlib.Core.Path.{sym, ap, _∙_}
+use mir.Syntax.{w64}
+use mir.Facts.{toZ-ofZ}
+use Rattle.refusal.specs.Outcome.{outcome64}
+use Rattle.timestamp.specs.Answer.{stampNanos}
+use Rattle.column.proofs.Outcomes.{as-given, once-trimmed}
+use borrow.Author.Needs.{needs}
+use Rattle.column.proofs.stamps.nanos.Statement.{statement}
+use Rattle.column.proofs.stamps.nanos.Tie as tie
+
+string-to-timestamp-nanos-requires : tie.Need-string-to-timestamp-nanos-requires
+string-to-timestamp-nanos-requires c κs = search needs
+
+enum-known-z : tie.Need-enum-known-z
+enum-known-z c = search needs
+
+enum-told : tie.Need-enum-told
+enum-told c = search needs
+
+trim-pre-and-post-whitespace-requires : tie.Need-trim-pre-and-post-whitespace-requires
+trim-pre-and-post-whitespace-requires c κs = search needs
+
+string-to-timestamp-nanos-requires-2 : tie.Need-string-to-timestamp-nanos-requires-2
+string-to-timestamp-nanos-requires-2 c κs = search needs
+
+returns : tie.Need-returns
+returns c =
+    let x = c .before in
+    let p = x .before .before in
+    rw (toZ-ofZ {w = w64} {z = x .z .given .0 .0} (record { sfits = c .known-told .given .0 .1 }))
+    (as-given stampNanos (p .before .before .args .s .now) (sym (ap outcome64 (x .z .given .1)) ∙ p .string-to-timestamp-nanos .ensures))
+
+returns-2 : tie.Need-returns-2
+returns-2 c =
+    let w = c .before .before in
+    let p = w .before .before in
+    once-trimmed stampNanos (p .before .before .args .s .now)
+    (sym (ap outcome64 (w .enum-told .given .1)) ∙ p .string-to-timestamp-nanos .ensures)
+    (c .string-to-timestamp-nanos2 .ensures ∙ ap stampNanos (c .before .trim-pre-and-post-whitespace .ensures))
+
+pub nanos-spec : {M : Type 1} → statement M
+nanos-spec =
+    tie.close
+    (tie.spec
+    string-to-timestamp-nanos-requires
+    enum-known-z
+    enum-told
+    trim-pre-and-post-whitespace-requires
+    string-to-timestamp-nanos-requires-2
+    returns
+    returns-2)

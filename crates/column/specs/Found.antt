@@ -1,0 +1,24 @@
+-- What the answer of `found` says, whatever the column's unit. Assumes nothing.
+use mathlib.Core.Path.{_≡_}
+use mathlib.Core.Bool.{Bool, true, false}
+use Prim.Native.Nat.{ℕ}
+use lib.IntN.{ℤ, pos}
+use lib.Signed.{quotZ}
+use Rattle.refusal.specs.Outcome.{Outcome, accepted, because}
+use Rattle.column.specs.declared.Found.{Found}
+use Rattle.column.specs.declared.Found.the-variants.{Nanos, Integer, Refused}
+
+-- the bits of a column, wide or not
+abbrev pub bitsOf : Bool → ℕ
+bitsOf true = 64
+bitsOf false = 32
+
+-- a time is divided by the unit of k nanoseconds, an integer is not
+abbrev pub foundIs : ℕ → Found → Outcome ℤ
+foundIs k (Nanos n) = accepted (quotZ n (pos k))
+foundIs k (Integer z) = accepted z
+foundIs k (Refused why) = because why
+
+-- what is found gives this outcome in every unit
+abbrev pub Finds : Found → (ℕ → Outcome ℤ) → Type 0
+Finds r o = (k : ℕ) → foundIs k r ≡ o k

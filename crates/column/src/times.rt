@@ -1,0 +1,115 @@
+// Time columns: a time, its nanoseconds divided toward zero; failing a time, the text as given as an integer, taken undivided.
+use crate::Found;
+use number::Int32;
+use number::Int64;
+use number::parse;
+use number::quotient;
+use refusal::Read32;
+use refusal::Read64;
+use text::trim::trim_pre_and_post_whitespace;
+use time::string_to_time_nanoseconds;
+ghost use mathlib.Core.Path.{_≡_};
+ghost use mathlib.Core.Bool.{true};
+ghost use Rattle.number.specs.Decimal.{integer};
+ghost use Rattle.number.specs.Widths.{int64};
+ghost use Rattle.refusal.specs.Outcome.{outcome32, outcome64};
+ghost use Rattle.text.specs.Trim.{trimmed};
+ghost use Rattle.time.specs.Answer.{timeNanos};
+ghost use Rattle.column.specs.Columns.{orElse, divided, asInteger, timeColumn, column, Time64Nanosecond, Time64Microsecond, Time32Millisecond, Time32Second};
+ghost use Rattle.column.specs.Found.{bitsOf, Finds};
+
+pub struct Time64NanosecondType {}
+
+pub struct Time64MicrosecondType {}
+
+pub struct Time32MillisecondType {}
+
+pub struct Time32SecondType {}
+
+// A time; failing that, an integer; failing that, a time once trimmed.
+fn found(s: &[u8], wide: bool) -> Found
+    ensures { λ r. ⌜ Finds r (λ k. timeColumn k (bitsOf wide) (now (s .entry))) ⌝ }
+{
+    match string_to_time_nanoseconds(s) {
+        Read64::Value(n) => Found::Nanos(n),
+        Read64::Refused(_) => integer_or_trimmed(s, wide),
+    }
+}
+
+fn integer_or_trimmed(s: &[u8], wide: bool) -> Found
+    ensures { λ r. ⌜ Finds r (λ k. orElse (asInteger (bitsOf wide) (now (s .entry))) (divided k (timeNanos (trimmed (now (s .entry)))))) ⌝ }
+{
+    match parse_integer(s, wide) {
+        Int64::Some(z) => Found::Integer(z),
+        Int64::None => trimmed_time(s),
+    }
+}
+
+fn trimmed_time(s: &[u8]) -> Found
+    ensures { λ r. ⌜ Finds r (λ k. divided k (timeNanos (trimmed (now (s .entry))))) ⌝ }
+{
+    match string_to_time_nanoseconds(trim_pre_and_post_whitespace(s)) {
+        Read64::Value(n) => Found::Nanos(n),
+        Read64::Refused(why) => Found::Refused(why),
+    }
+}
+
+fn parse_integer(s: &[u8], wide: bool) -> Int64
+    ensures { λ r. ⌜ int64 r ≡ integer true (bitsOf wide) (now (s .entry)) ⌝ }
+{
+    if wide {
+        return parse::parse_i64(s);
+    }
+    match parse::parse_i32(s) {
+        Int32::Some(z) => Int64::Some(z as i64),
+        Int32::None => Int64::None,
+    }
+}
+
+impl Time64NanosecondType {
+    pub fn parse(s: &[u8]) -> Read64
+        ensures { λ r. ⌜ outcome64 r ≡ column Time64Nanosecond (now (s .entry)) ⌝ }
+    {
+        match found(s, true) {
+            Found::Nanos(n) => Read64::Value(n),
+            Found::Integer(z) => Read64::Value(z),
+            Found::Refused(why) => Read64::Refused(why),
+        }
+    }
+}
+
+impl Time64MicrosecondType {
+    pub fn parse(s: &[u8]) -> Read64
+        ensures { λ r. ⌜ outcome64 r ≡ column Time64Microsecond (now (s .entry)) ⌝ }
+    {
+        match found(s, true) {
+            Found::Nanos(n) => Read64::Value(quotient::to_micros(n)),
+            Found::Integer(z) => Read64::Value(z),
+            Found::Refused(why) => Read64::Refused(why),
+        }
+    }
+}
+
+impl Time32MillisecondType {
+    pub fn parse(s: &[u8]) -> Read32
+        ensures { λ r. ⌜ outcome32 r ≡ column Time32Millisecond (now (s .entry)) ⌝ }
+    {
+        match found(s, false) {
+            Found::Nanos(n) => Read32::Value(quotient::to_millis(n) as i32),
+            Found::Integer(z) => Read32::Value(z as i32),
+            Found::Refused(why) => Read32::Refused(why),
+        }
+    }
+}
+
+impl Time32SecondType {
+    pub fn parse(s: &[u8]) -> Read32
+        ensures { λ r. ⌜ outcome32 r ≡ column Time32Second (now (s .entry)) ⌝ }
+    {
+        match found(s, false) {
+            Found::Nanos(n) => Read32::Value(quotient::to_seconds(n) as i32),
+            Found::Integer(z) => Read32::Value(z as i32),
+            Found::Refused(why) => Read32::Refused(why),
+        }
+    }
+}
