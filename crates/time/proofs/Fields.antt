@@ -18,6 +18,7 @@ use Rattle.timestamp.specs.Clock.{inRange}
 use Rattle.time.specs.declared.Half.{Half}
 use Rattle.time.specs.Answer.{half, body, hourOf, inDay, fractionOf, withFraction, afterMinutes, afterHour, fromHour, timeOfDay}
 
+-- what the clock makes of fields is what the definition makes of them
 pub of-clock :
     (h m s n : ℕ) → n < 1000000000 →
     cond (inRange h m s && ltb n 1000000000) (some (((h * 60 + m) * 60 + s) * 1000000000 + n)) none ≡ inDay m s n (some h)
