@@ -2,4 +2,5 @@
 pub mod Millis
 pub mod Outcomes
 pub mod Ranges
+pub mod Readings
 pub mod Widths32

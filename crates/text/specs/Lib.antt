@@ -1,5 +1,6 @@
 -- What the contracts of `text` cite.
 pub mod Digits
+pub mod Quoted
 pub mod Utf8
 pub mod WhiteSpace
 pub mod Trim
