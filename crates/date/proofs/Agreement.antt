@@ -1,18 +1,18 @@
 -- The grammar of dates and the computation agree: a text names a day exactly where the computation accepts it with that day; it has at
 -- most one reading. Assumes nothing.
 use mathlib.Core.Path.{_≡_, refl, sym, ap, _∙_, subst}
-use mathlib.Core.Bool.{Bool, true, false, cond, not, _&&_, _||_, false≢true}
-use mathlib.Core.Logic.{_⊎_, inl, inr, ⊎-elim, _↔_}
+use mathlib.Core.Bool.{Bool, true, false, cond, not, _&&_, false≢true}
+use mathlib.Core.Logic.{inl, ⊎-elim, _↔_}
 use mathlib.Core.List.{List, [], _∷_, _++_}
 use mathlib.Core.Option.{Option, none, some}
-use Prim.Native.Nat.{ℕ, zero, suc, _+_, _-_, _*_, _≤_, _<_}
+use Prim.Native.Nat.{ℕ, suc, _+_, _≤_, _<_}
 use native.Mathlib.Omega.{arith}
 use native.Mathlib.Numerals.{add-one}
 use lib.Dec.{eqb, leb, ltb}
 use lib.ListN.{length, getD, take, drop, length-append, drop-of-length-le}
-use lib.Seq.{length-take-le, take-at, drop-at, drop-cons, drop-drop}
+use lib.Seq.{length-take-le, take-at, drop-at, drop-drop}
 use lib.IntN.{ℤ, pos, negsuc}
-use borrow.Author.Tests.{eqb-true, ne-eqb, le-leb, leb-true, lt-leb, leb-false, lt-ltb, ltb-true, not-true}
+use borrow.Author.Tests.{eqb-true, le-leb, leb-true, lt-leb, leb-false, lt-ltb, ltb-true, not-true}
 use Rattle.calendar.specs.Calendar.{civil}
 use Rattle.number.specs.Widths.{inSigned, inUnsigned, inType, keep}
 use Rattle.number.specs.Decimal.{Digits, one-or-more, Numeral, plain, plus, minus, numeral, integer}
@@ -20,16 +20,15 @@ use Rattle.number.proofs.Agreement as Numerals
 use Rattle.refusal.specs.Outcome.{Outcome, accepted, refused, andThen}
 use Rattle.text.specs.Digits.{isDigit, worth, digits, value, twoDigits, twoAt}
 use Rattle.text.specs.Utf8.{utf8}
-use Rattle.text.proofs.Bools.{and-left, and-right, and-false, or-cases, by-test, within-is}
+use Rattle.text.proofs.Bools.{and-left, and-right, and-false, or-cases, by-test}
 use Rattle.timestamp.specs.Grammar.{Figures}
 use Rattle.timestamp.specs.Answer.{isDate, dayOf, Moment, plainMoment}
-use Rattle.timestamp.specs.Meaning.{Names}
-use Rattle.timestamp.proofs.Shapes.{all-digits, by-one, by-two, by-four, one-figure, two-figures, four-figures, one-value, two-value, four-value, not-sign, size-of, sign-inside, inside, seven, eight}
+use Rattle.timestamp.proofs.Shapes.{all-digits, by-one, by-two, by-four, one-figure, two-figures, four-figures, one-value, two-value, four-value, not-sign, size-of, sign-inside, seven, eight}
 use Rattle.timestamp.proofs.Agreement as Stamps
 use Rattle.timestamp.proofs.Agreement.{clash, none-some, both}
 use Rattle.date.specs.Grammar.{OneOrTwo, one, two, noDigits, Sign, DateText, compact, hyphens, signed, NamesDay, of-date, of-stamp, Reads, reads}
 use Rattle.date.specs.Grammar as Grammar
-use Rattle.date.specs.Answer.{isSign, toHyphen, numbers, monthDay, signedYear, extendedYmd, dayWith, signedDay, fourDigits, fourAt, compactDay, lastDay, hyphenDay, shortDay, onDay, plainDay, dayNamed, inDays, dateDays}
+use Rattle.date.specs.Answer.{isSign, toHyphen, numbers, monthDay, extendedYmd, dayWith, signedDay, fourDigits, fourAt, compactDay, lastDay, hyphenDay, shortDay, onDay, plainDay, dayNamed, inDays, dateDays}
 
 -- ---- the signed form is read
 

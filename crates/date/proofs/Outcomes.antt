@@ -10,7 +10,7 @@ use Rattle.number.specs.Widths.{inSigned, fit}
 use Rattle.refusal.specs.Outcome.{Outcome, accepted, inUtf8, andThen}
 use Rattle.text.specs.Utf8.{utf8}
 use Rattle.text.proofs.Bools.{by-test}
-use Rattle.timestamp.specs.Answer.{Moment, datetime, plainMoment}
+use Rattle.timestamp.specs.Answer.{Moment, datetime}
 use Rattle.timestamp.proofs.Outcomes.{orRange}
 use Rattle.date.specs.Answer.{isSign, signedDay, shortDay, onDay, plainDay, dayNamed, inDays}
 

@@ -1,5 +1,5 @@
 -- Unsigned dates of at most 10 bytes, from the values that the code has of their bytes. Assumes nothing.
-use mathlib.Core.Path.{_≡_, refl, sym, ap, _∙_}
+use mathlib.Core.Path.{_≡_, refl, sym, _∙_}
 use mathlib.Core.Bool.{Bool, true, false, not, _&&_}
 use mathlib.Core.List.{List}
 use mathlib.Core.Option.{none}
@@ -12,7 +12,7 @@ use lib.Seq.{drop-cons, drop-drop, getD-drop}
 use lib.IntN.{ℤ, pos}
 use borrow.Author.Tests.{not-true, not-false, ltb-true, ltb-false, eq-eqb, ne-eqb}
 use Rattle.calendar.specs.Calendar.{civil}
-use Rattle.text.specs.Digits.{isDigit, worth, digitOf, twoDigits}
+use Rattle.text.specs.Digits.{isDigit, digitOf, twoDigits}
 use Rattle.text.proofs.Bools.{by-test}
 use Rattle.text.proofs.DigitLaws.{is-digit, no-digit, is-worth}
 use Rattle.text.proofs.TwoDigits.{twoOr, two-test, two-is, sign-test}

@@ -5,7 +5,7 @@ use text::digits::two;
 use text::white::byte_at;
 ghost use mathlib.Core.Path.{_≡_};
 ghost use Prim.Native.Nat.{_+_, _*_, _<_, _≤_};
-ghost use lib.ListN.{length, drop};
+ghost use lib.ListN.{drop};
 ghost use lib.IntN.{pos};
 ghost use Rattle.calendar.specs.Calendar.{civil, day};
 ghost use Rattle.date.specs.Grammar.{noDigits};

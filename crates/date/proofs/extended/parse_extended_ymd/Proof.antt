@@ -40,8 +40,7 @@ add-last c = search needs
 
 slice-aggregate-parse-i32 : tie.Need-slice-aggregate-parse-i32
 slice-aggregate-parse-i32 c =
-    let h = c .before .before .before .before .before in
-    sym (length-take-le (h .find-hyphen .result) (h .before .before .args .s .now) (omega arith))
+    sym (length-take-le _ (c .before .before .before .before .before .before .before .args .s .now) (omega arith))
 
 parse-i32-requires : tie.Need-parse-i32-requires
 parse-i32-requires c κs = search needs

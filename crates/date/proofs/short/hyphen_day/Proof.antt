@@ -1,8 +1,7 @@
 -- `date::short::hyphen_day` meets its contract, by the laws of a date with hyphens. Assumes nothing.
-use mathlib.Core.Path.{_≡_, ap, _∙_}
+use mathlib.Core.Path.{ap, _∙_}
 use mathlib.Core.Bool.{_&&_}
 use lib.Dec.{ltb, eqb}
-use lib.ListN.{getD}
 use borrow.Author.Needs.{needs}
 use Rattle.text.specs.Digits.{digitOf}
 use Rattle.date.proofs.Shapes.{HyphensRead, after-two, after-one, no-month, below-100}
