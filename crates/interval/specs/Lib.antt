@@ -1,0 +1,8 @@
+-- What the contracts of `interval` cite.
+pub mod Quoted
+pub mod Units
+pub mod Grammar
+pub mod Division
+pub mod Contribution
+pub mod Answer
+pub mod Meaning
