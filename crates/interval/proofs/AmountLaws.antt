@@ -225,48 +225,51 @@ module _ (n : ℕ) {s : List ℕ} {neg : Bool} (S : Sign s neg) where
   unfolding value
   fraction-says {f} F = of-point [] f no-digits
 
--- ---- an amount at the front of a text t, read: behind its sign stand k digits, then z
+-- ---- an amount at the front of a text, as it is read: what follows the sign, what follows the digits, what follows a point
+
+abbrev pub behind : List ℕ → List ℕ
+behind t = drop (signLen (negative t)) t
+
+abbrev pub wholeValue : List ℕ → ℕ
+wholeValue t = value 0 (take (run (behind t)) (behind t))
+
+abbrev pub afterDigits : List ℕ → List ℕ
+afterDigits t = drop (run (behind t)) (behind t)
+
+abbrev pub afterPoint : List ℕ → List ℕ
+afterPoint t = drop 1 (afterDigits t)
 
 module _ (n : ℕ) (t : List ℕ) where
-  abbrev pub behind : List ℕ
-  behind = drop (signLen (negative t)) t
-
-  abbrev pub afterDigits : List ℕ
-  afterDigits = drop (run behind) behind
-
-  abbrev pub wholeValue : ℕ
-  wholeValue = value 0 (take (run behind) behind)
-
-  abbrev pub afterPoint : List ℕ
-  afterPoint = drop 1 afterDigits
-
-  split-sign : (k : ℕ) → take (signLen (negative t) + k) t ≡ take (signLen (negative t)) t ++ take k behind
+  split-sign : (k : ℕ) → take (signLen (negative t) + k) t ≡ take (signLen (negative t)) t ++ take k (behind t)
   split-sign k = take-add (signLen (negative t)) k t
 
-  pub unfit-len : wholeFits (negative t) wholeValue ≡ false → amountLen n t ≡ 0
+  -- its length
+
+  pub unfit-len : wholeFits (negative t) (wholeValue t) ≡ false → amountLen n t ≡ 0
   unfolding amountLen digitsLen pointLen
   unfit-len f = rw f
 
-  pub point-len : wholeFits (negative t) wholeValue ≡ true → eqb (getD afterDigits 0 0) 0x2E ≡ true → amountLen n t ≡ cond (within 1 (run afterPoint) n) (signLen (negative t) + (run behind + suc (run afterPoint))) 0
-  unfolding amountLen digitsLen pointLen
-  point-len f e = rw (f, e)
-
-  pub whole-len : wholeFits (negative t) wholeValue ≡ true → eqb (getD afterDigits 0 0) 0x2E ≡ false → amountLen n t ≡ cond (ltb 0 (run behind)) (signLen (negative t) + run behind) 0
+  pub whole-len : wholeFits (negative t) (wholeValue t) ≡ true → eqb (getD (afterDigits t) 0 0) 0x2E ≡ false → amountLen n t ≡ cond (ltb 0 (run (behind t))) (signLen (negative t) + run (behind t)) 0
   unfolding amountLen digitsLen pointLen
   whole-len f e = rw (f, e)
 
-  pub whole-value : amountOf n (take (signLen (negative t) + run behind) t) ≡ valued (negative t) wholeValue 0
-  whole-value = rw (split-sign (run behind)) (of-digits n (sign-is t .0) (take (run behind) behind) (run-is behind .0))
+  pub point-len : wholeFits (negative t) (wholeValue t) ≡ true → eqb (getD (afterDigits t) 0 0) 0x2E ≡ true → amountLen n t ≡ cond (within 1 (run (afterPoint t)) n) (signLen (negative t) + (run (behind t) + suc (run (afterPoint t)))) 0
+  unfolding amountLen digitsLen pointLen
+  point-len f e = rw (f, e)
 
-  pub point-value : eqb (getD afterDigits 0 0) 0x2E ≡ true → amountOf n (take (signLen (negative t) + (run behind + suc (run afterPoint))) t) ≡ valued (negative t) wholeValue (value 0 (take (run afterPoint) afterPoint) * 10 ^ (n - run afterPoint))
-  point-value e = from afterDigits refl e
+  -- what it says
+
+  pub whole-value : amountOf n (take (signLen (negative t) + run (behind t)) t) ≡ valued (negative t) (wholeValue t) 0
+  whole-value = rw (split-sign (run (behind t))) (of-digits n (sign-is t .0) (take (run (behind t)) (behind t)) (run-is (behind t) .0))
+
+  pub point-value : eqb (getD (afterDigits t) 0 0) 0x2E ≡ true → amountOf n (take (signLen (negative t) + (run (behind t) + suc (run (afterPoint t)))) t) ≡ valued (negative t) (wholeValue t) (value 0 (take (run (afterPoint t)) (afterPoint t)) * 10 ^ (n - run (afterPoint t)))
+  point-value e = from (afterDigits t) refl e
     where
-      from : (z : List ℕ) → afterDigits ≡ z → eqb (getD z 0 0) 0x2E ≡ true → amountOf n (take (signLen (negative t) + (run behind + suc (run (drop 1 z)))) t) ≡ valued (negative t) wholeValue (value 0 (take (run (drop 1 z)) (drop 1 z)) * 10 ^ (n - run (drop 1 z)))
+      from : (z : List ℕ) → afterDigits t ≡ z → eqb (getD z 0 0) 0x2E ≡ true → amountOf n (take (signLen (negative t) + (run (behind t) + suc (run (drop 1 z)))) t) ≡ valued (negative t) (wholeValue t) (value 0 (take (run (drop 1 z)) (drop 1 z)) * 10 ^ (n - run (drop 1 z)))
       from [] q h = absurd (false≢true h)
       from (b ∷ z) q h =
-          let r = run-is z in
-          let l : take (run behind + suc (run z)) behind ≡ take (run behind) behind ++ (0x2E ∷ take (run z) z) = take-add (run behind) (suc (run z)) behind ∙ rw (q, eqb-true b 0x2E h) in
-          rw (split-sign (run behind + suc (run z)), l, of-point n (sign-is t .0) (take (run behind) behind) (take (run z) z) (run-is behind .0), length-take-le (run z) z (r .1))
+          let l : take (run (behind t) + suc (run z)) (behind t) ≡ take (run (behind t)) (behind t) ++ (0x2E ∷ take (run z) z) = take-add (run (behind t)) (suc (run z)) (behind t) ∙ rw (q, eqb-true b 0x2E h) in
+          rw (split-sign (run (behind t) + suc (run z)), l, of-point n (sign-is t .0) (take (run (behind t)) (behind t)) (take (run z) z) (run-is (behind t) .0), length-take-le (run z) z (run-is z .1))
 
 -- ---- UTF-8
 

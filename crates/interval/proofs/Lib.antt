@@ -1,3 +1,5 @@
 -- Laws that belong to no one function.
 pub mod Words
 pub mod AmountLaws
+pub mod Agreement
+pub mod Steps
