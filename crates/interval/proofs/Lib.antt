@@ -3,3 +3,6 @@ pub mod Words
 pub mod AmountLaws
 pub mod Agreement
 pub mod Steps
+pub mod Demand3
+pub mod Cuts
+pub mod Readings
