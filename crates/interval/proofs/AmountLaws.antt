@@ -157,9 +157,10 @@ module _ (n : ℕ) {s : List ℕ} {neg : Bool} (S : Sign s neg) (d : List ℕ) (
   unfolding Got
   whole-is fit y =
       by-test (ltb 0 (length d))
-      (λ p. rw p (inr
-      (rw (take-append-add s (d ++ y) (length d), take-append-seam d y) (whole S (record { written = one-of d D (ltb-true 0 (length d) p); fitting = fit })),
-      simp length-append (omega arith))))
+      (λ p. rw p (inr (
+        rw (take-append-add s (d ++ y) (length d), take-append-seam d y) (whole S (record { written = one-of d D (ltb-true 0 (length d) p); fitting = fit })),
+        simp length-append (omega arith),
+      )))
       (λ p. rw p (inl refl))
 
   point-is : wholeFits neg (value 0 d) ≡ true → (y : List ℕ) → Got n (s ++ (d ++ (0x2E ∷ y))) (cond (within 1 (run y) n) (length s + (length d + suc (run y))) 0)
@@ -170,10 +171,11 @@ module _ (n : ℕ) {s : List ℕ} {neg : Bool} (S : Sign s neg) (d : List ℕ) (
       let r = run-is y in
       let w = within-is 1 (run y) n h in
       let l = length-take-le (run y) y (r .1) in
-      rw h (inr
-      (rw (take-append-add s (d ++ (0x2E ∷ y)) (length d + suc (run y)), take-append-add d (0x2E ∷ y) (suc (run y)))
-      (pointed S d (take (run y) y) D fit (record { written = one-of (take (run y) y) (r .0) (omega arith); most = omega arith })),
-      simp length-append (omega arith))))
+      rw h (inr (
+        rw (take-append-add s (d ++ (0x2E ∷ y)) (length d + suc (run y)), take-append-add d (0x2E ∷ y) (suc (run y)))
+            (pointed S d (take (run y) y) D fit (record { written = one-of (take (run y) y) (r .0) (omega arith); most = omega arith })),
+        simp length-append (omega arith),
+      )))
       (λ h. rw h (inl refl))
 
   tail-is : (b : Bool) → wholeFits neg (value 0 d) ≡ b → (y : List ℕ) → Got n (s ++ (d ++ y)) (pointLen n (length s) (length d) b y)

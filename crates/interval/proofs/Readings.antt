@@ -99,8 +99,8 @@ rows =
     config 15 Nanosecond "-7" (accepted (counts (pos 0) (pos 0) (minus 7))) ∷
     refuses "1 month 2" 9 ∷
     -- spelling and white space
-    reads "1 wee\u{212A} 1 MONTH" (pos 1) (pos 7) (pos 0) ∷
-    reads "1\u{3000}day\u{A0}2" (pos 2) (pos 1) (pos 0) ∷
+    reads "1 weeK 1 MONTH" (pos 1) (pos 7) (pos 0) ∷
+    reads "1\u{3000}day\u{a0}2" (pos 2) (pos 1) (pos 0) ∷
     refuses "1 fortnight" 8 ∷
     refuses "1 day " 8 ∷
     refuses " 1 day" 8 ∷

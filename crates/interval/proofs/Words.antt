@@ -29,35 +29,28 @@ pub record Lead (w : List ℕ) : Type 0 where
   pub begins : w ≡ first ∷ others
   pub outside : (first ≤ 0x20) ⊎ (0x80 ≤ first)
 
-not-ascii : (c : ℕ) → 0x20 < c → c < 0x80 → whiteSpace c ≡ false
-not-ascii c p q =
-    rw (
-      within-over 0x0009 c 0x000D (omega arith),
-      ne-eqb c 0x0020 (λ e. omega arith),
-      ne-eqb c 0x0085 (λ e. omega arith),
-      ne-eqb c 0x00A0 (λ e. omega arith),
-      ne-eqb c 0x1680 (λ e. omega arith),
-      within-under 0x2000 c 0x200A (omega arith),
-      within-under 0x2028 c 0x2029 (omega arith),
-      ne-eqb c 0x202F (λ e. omega arith),
-      ne-eqb c 0x205F (λ e. omega arith),
-      ne-eqb c 0x3000 (λ e. omega arith),
-    )
+-- past the space, there is none in ASCII and none from 3001 on
+module _ (c : ℕ) (q : (c < 0x80) ⊎ (0x3000 < c)) where
+  not-within : (a b : ℕ) → 0x80 ≤ a → b ≤ 0x3000 → within a c b ≡ false
+  not-within a b h k = ⊎-elim (λ l. within-under a c b (omega arith)) (λ l. within-over a c b (omega arith)) q
 
-not-high : (c : ℕ) → 0x3000 < c → whiteSpace c ≡ false
-not-high c p =
-    rw (
-      within-over 0x0009 c 0x000D (omega arith),
-      ne-eqb c 0x0020 (λ e. omega arith),
-      ne-eqb c 0x0085 (λ e. omega arith),
-      ne-eqb c 0x00A0 (λ e. omega arith),
-      ne-eqb c 0x1680 (λ e. omega arith),
-      within-over 0x2000 c 0x200A (omega arith),
-      within-over 0x2028 c 0x2029 (omega arith),
-      ne-eqb c 0x202F (λ e. omega arith),
-      ne-eqb c 0x205F (λ e. omega arith),
-      ne-eqb c 0x3000 (λ e. omega arith),
-    )
+  not-this : (k : ℕ) → 0x80 ≤ k → k ≤ 0x3000 → eqb c k ≡ false
+  not-this k h l = ne-eqb c k (λ e. ⊎-elim (λ m. omega arith) (λ m. omega arith) q)
+
+  not-space : 0x20 < c → whiteSpace c ≡ false
+  not-space p =
+      rw (
+        within-over 0x0009 c 0x000D (omega arith),
+        ne-eqb c 0x0020 (λ e. omega arith),
+        not-this 0x0085 (omega arith) (omega arith),
+        not-this 0x00A0 (omega arith) (omega arith),
+        not-this 0x1680 (omega arith) (omega arith),
+        not-within 0x2000 0x200A (omega arith) (omega arith),
+        not-within 0x2028 0x2029 (omega arith) (omega arith),
+        not-this 0x202F (omega arith) (omega arith),
+        not-this 0x205F (omega arith) (omega arith),
+        not-this 0x3000 (omega arith) (omega arith),
+      )
 
 pub lead : {w : List ℕ} → White w → Lead w
 lead (white c e) =
@@ -66,7 +59,8 @@ lead (white c e) =
       first = c;
       others = [];
       begins = rw p;
-      outside = by-test (leb c 0x20) (λ q. inl (leb-true c 0x20 q)) (λ q. both-ways (whiteSpace c) (not-ascii c (leb-false c 0x20 q) (ltb-true c 0x80 p)) e) })
+      outside = by-test (leb c 0x20) (λ q. inl (leb-true c 0x20 q)) (λ q. both-ways (whiteSpace c) (not-space c (inl (ltb-true c 0x80 p)) (leb-false c 0x20 q)) e);
+    })
     (λ p. by-test (ltb c 0x800)
     (λ q. record { first = 0xC0 + c / 64; others = (0x80 + c % 64) ∷ []; begins = rw (p, q); outside = inr (omega arith) })
     (λ q. by-test (ltb c 0x10000)
@@ -84,7 +78,7 @@ white-utf8 (white c e) u = scalar-then c valid u
     valid =
         by-test (leb c 0x3000)
         (λ p. let q = leb-true c 0x3000 p in rw (le-leb c 0x10FFFF (omega arith), within-under 0xD800 c 0xDFFF (omega arith)))
-        (λ p. both-ways (whiteSpace c) (not-high c (leb-false c 0x3000 p)) e)
+        (λ p. let q = leb-false c 0x3000 p in both-ways (whiteSpace c) (not-space c (inr q) (omega arith)) e)
 
 -- ---- the letters of a unit word
 

@@ -1,8 +1,8 @@
--- Interval texts, as a relation between a text and its division: document 01, "Interval grammar". It narrows PostgreSQL 15, section 8.5.4,
--- "Interval Input", to "quantity unit [quantity unit...]": no @, no ago, no plus, no unitless hh:mm:ss, no ISO 8601 form, and exactly one
--- white space character where PostgreSQL takes several; a unit may stand glued to its amount. The limit n is the most digits behind a
--- point: document 01 has 15. Division.antt computes the division; `Rattle.interval.proofs.Agreement.agrees` joins the two.
--- Assumes nothing.
+-- Interval texts, as a relation between a text and its division: document 01, "Interval grammar". The page is PostgreSQL 15, section
+-- 8.5.4, "Interval Input": [@] quantity unit [quantity unit...] [direction]. Document 01 takes less of it: no @, no direction (ago),
+-- no plus, no hh:mm:ss without units, none of the ISO 8601 forms, and exactly one white space character where PostgreSQL takes any
+-- number. The limit n is the most digits behind a point: document 01 has 15. Division.antt computes the division, and the theorem
+-- `Rattle.interval.proofs.Agreement.agrees` says that it is this one. Assumes nothing.
 use mathlib.Core.Path.{_≡_}
 use mathlib.Core.Bool.{Bool, true, false}
 use mathlib.Core.List.{List, [], _∷_, _++_}

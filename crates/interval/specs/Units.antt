@@ -1,5 +1,6 @@
 -- The units of an interval and their spellings: document 01, "Interval grammar", "Units are the spellings in `IntervalUnit::from_str`, in
--- any ASCII case; U+212A counts as k". PostgreSQL 15, section 8.5.4, has millennium besides, and other abbreviations. Assumes nothing.
+-- any ASCII case; U+212A counts as k". PostgreSQL 15, section 8.5.4, has millennium besides and no nanosecond, and leaves abbreviations
+-- and plurals open. Assumes nothing.
 use mathlib.Core.Bool.{Bool, true, false, cond, _&&_, _||_}
 use mathlib.Core.List.{List, [], _∷_}
 use mathlib.Core.Option.{Option, none, some}
