@@ -1,6 +1,6 @@
 -- The division that is computed is the one of the grammar (`agrees`), so that a text has at most one (`unique`); and a divided text is
 -- well-formed UTF-8 (`well-formed`). Assumes nothing.
-use mathlib.Core.Path.{_≡_, refl, ap, _∙_}
+use mathlib.Core.Path.{_≡_, refl, _∙_}
 use mathlib.Core.Bool.{Bool, true, false, not}
 use mathlib.Core.Logic.{_⊎_, inl, inr, ⊎-elim, _↔_}
 use mathlib.Core.List.{List, [], _∷_, _++_, append-assoc, append-nil}
@@ -21,7 +21,7 @@ use Rattle.text.proofs.WhiteAgrees.{found, measures}
 use Rattle.interval.specs.Units.{isUnit}
 use Rattle.interval.specs.Grammar.{Amount, Component, component, Complete, glued, apart, Divides, bare, last, more}
 use Rattle.interval.specs.Division.{amountLen, wordLen, Step, bad, stop, go, endStep, unitStep, restStep, amountStep, step, before, then, divideBy, divide}
-use Rattle.interval.proofs.Words.{Lead, lead, white-some, white-utf8, unit-letters, letters-utf8, Ends, at-end, at-white, unit-first, unit-not-white, word-run}
+use Rattle.interval.proofs.Words.{lead, white-some, white-utf8, unit-letters, letters-utf8, Ends, at-end, at-white, unit-first, unit-not-white, word-run}
 use Rattle.interval.proofs.AmountLaws.{Breaks, nothing-breaks, amount-run, amount-some, amount-utf8, Got, amount-is}
 
 -- ---- white space and unit words end an amount

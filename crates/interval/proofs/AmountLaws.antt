@@ -1,12 +1,11 @@
 -- Amounts in a text: an amount is measured to its end, what is measured is an amount, and what an amount says is read off its digits.
 -- Assumes nothing.
-use mathlib.Core.Path.{_≡_, refl, sym, ap, _∙_}
-use mathlib.Core.Bool.{Bool, true, false, cond, _&&_, false≢true}
+use mathlib.Core.Path.{_≡_, refl, ap, _∙_}
+use mathlib.Core.Bool.{Bool, true, false, cond, false≢true}
 use mathlib.Core.Logic.{_⊎_, inl, inr, ⊎-elim}
 use mathlib.Core.List.{List, [], _∷_, _++_, append-assoc, append-nil}
 use Prim.Native.Nat.{ℕ, suc, _+_, _-_, _*_, _^_, _≤_, _<_}
 use native.Mathlib.Omega.{arith}
-use native.Mathlib.Nat.{add-zero}
 use lib.Dec.{eqb, ltb}
 use lib.ListN.{length, getD, take, drop, length-append, take-append-drop}
 use lib.Seq.{take-append-seam, drop-append-seam, take-append-add, length-take-le, take-length, drop-length, take-add}
@@ -17,7 +16,7 @@ use Rattle.text.proofs.Bools.{and-left, and-right, by-test, within-yes, within-
 use Rattle.number.specs.Decimal.{Digits, one-or-more}
 use Rattle.interval.specs.Grammar.{Sign, no-sign, minus, wholeFits, Whole, Fraction, Amount, whole, decimal, fraction}
 use Rattle.interval.specs.Division.{negative, signLen, pointLen, digitsLen, amountLen}
-use Rattle.interval.specs.Contribution.{Value, valued, fracOf, unsignedOf, amountOf}
+use Rattle.interval.specs.Contribution.{valued, fracOf, unsignedOf, amountOf}
 use Rattle.interval.proofs.Words.{ascii-utf8}
 
 -- ---- digits

@@ -2,7 +2,7 @@
 -- (`year-month`, `day-time`). Assumes nothing.
 use mathlib.Core.Path.{_≡_, refl, sym, ap, _∙_}
 use mathlib.Core.Bool.{Bool, true, false, cond, _&&_, _||_, false≢true}
-use mathlib.Core.Logic.{_⊎_, inl, inr, ⊎-elim, _↔_}
+use mathlib.Core.Logic.{⊎-elim, _↔_}
 use mathlib.Core.List.{List, [], _∷_, _++_}
 use mathlib.Core.Option.{Option, none, some, Option·none-ne-some}
 use Prim.Native.Nat.{ℕ, zero, suc, _*_, _/_, _%_}
@@ -13,7 +13,7 @@ use lib.IntN.{ℤ, pos, negsuc, negℤ, natAbs, _+ℤ_, _*ℤ_}
 use lib.ListN.{getD}
 use lib.Signed.{quotZ}
 use borrow.Author.Tests.{eqb-true, eq-eqb}
-use Rattle.text.specs.Utf8.{Utf8, utf8}
+use Rattle.text.specs.Utf8.{utf8}
 use Rattle.text.proofs.Bools.{and-left, and-right, or-cases, both-ways, by-test}
 use Rattle.text.proofs.Utf8Agrees as Utf8Agrees
 use Rattle.number.specs.Widths.{inSigned}

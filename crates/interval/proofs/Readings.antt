@@ -1,12 +1,12 @@
 -- Readings of the definitions: document 01's interval readings, and others that reach each unit, each sign, and each limit on both
 -- sides. Assumes nothing.
 use mathlib.Core.Path.{_≡_, refl}
-use mathlib.Core.List.{List, [], _∷_, map}
+use mathlib.Core.List.{List, [], _∷_, _++_, map}
 use Prim.Native.Nat.{ℕ}
 use Prim.Native.String.{String}
 use lib.IntN.{ℤ, pos, negℤ}
 use Rattle.text.specs.Digits.{value, run}
-use Rattle.text.specs.Utf8.{wellFormed}
+use Rattle.text.specs.Utf8.{encode, wellFormed}
 use Rattle.text.specs.WhiteSpace.{white1, white2, white3, whiteOf}
 use Rattle.refusal.specs.Outcome.{Outcome, accepted, refused}
 use Rattle.interval.specs.Quoted.{bytes}
@@ -16,7 +16,7 @@ use Rattle.interval.specs.Division.{negative, signLen, pointLen, digitsL
 use Rattle.interval.specs.Contribution.{Counts, counts, fracOf, unsignedOf, amountOf, times, wholeTimes, fracTimes, contribution}
 use Rattle.interval.specs.Answer.{orElse, spelled, unitFor, gives, fits, plus, totals, has, twice, onTotals, onDivision, monthDayNano, DayTime, dayTimeOf, toYearMonths, dayTimeFits, toDayTime, orNarrowed, narrowed, yearMonth, dayTime, plainMonthDayNano}
 use Rattle.interval.specs.declared.IntervalUnit.{IntervalUnit}
-use Rattle.interval.specs.declared.IntervalUnit.the-variants.{Century, Decade, Year, Month, Week, Day, Hour, Minute, Second, Millisecond, Microsecond, Nanosecond}
+use Rattle.interval.specs.declared.IntervalUnit.the-variants.{Century, Month, Nanosecond}
 
 -- an answer in one of the forms
 pub data Said : Type 0 where
@@ -34,13 +34,17 @@ computed (row reader t r) = reader t
 abbrev told : Row → Said
 told (row reader t r) = r
 
--- months, days and nanoseconds of the plain reader
-abbrev reads : String → ℤ → ℤ → ℤ → Row
-reads t m d n = row (λ s. in-counts (plainMonthDayNano 15 s)) (bytes t) (in-counts (accepted (counts m d n)))
+-- the plain month-day-nano reader
+abbrev plain : List ℕ → Outcome Counts → Row
+plain t r = row (λ s. in-counts (plainMonthDayNano 15 s)) t (in-counts r)
 
--- a refusal of the plain reader
+-- it reads months, days and nanoseconds
+abbrev reads : String → ℤ → ℤ → ℤ → Row
+reads t m d n = plain (bytes t) (accepted (counts m d n))
+
+-- it refuses
 abbrev refuses : String → ℕ → Row
-refuses t k = row (λ s. in-counts (plainMonthDayNano 15 s)) (bytes t) (in-counts (refused k))
+refuses t k = plain (bytes t) (refused k)
 
 -- the reader with a limit of fraction digits and a default unit
 abbrev config : ℕ → IntervalUnit → String → Outcome Counts → Row
@@ -99,8 +103,8 @@ rows =
     config 15 Nanosecond "-7" (accepted (counts (pos 0) (pos 0) (minus 7))) ∷
     refuses "1 month 2" 9 ∷
     -- spelling and white space
-    reads "1 weeK 1 MONTH" (pos 1) (pos 7) (pos 0) ∷
-    reads "1\u{3000}day\u{a0}2" (pos 2) (pos 1) (pos 0) ∷
+    plain (bytes "1 wee" ++ (encode 0x212A ++ bytes " 1 MONTH 1 DAY")) (accepted (counts (pos 1) (pos 8) (pos 0))) ∷
+    plain (bytes "1" ++ (encode 0x3000 ++ (bytes "day" ++ (encode 0x00A0 ++ bytes "2")))) (accepted (counts (pos 2) (pos 1) (pos 0))) ∷
     refuses "1 fortnight" 8 ∷
     refuses "1 day " 8 ∷
     refuses " 1 day" 8 ∷
@@ -151,7 +155,7 @@ rows =
     reads "-9223372036854774808 nanoseconds -1 us" (pos 0) (pos 0) (minus 9_223_372_036_854_775_808) ∷
     refuses "-9223372036854774809 nanoseconds -1 us" 10 ∷
     -- the order of refusals
-    row (λ s. in-counts (plainMonthDayNano 15 s)) (0x31 ∷ 0xFF ∷ []) (in-counts (refused 1)) ∷
+    plain (0x31 ∷ 0xFF ∷ []) (refused 1) ∷
     refuses "1 day 1 day é" 8 ∷
     refuses "99999999999 days 1 day" 9 ∷
     year-month "99999999999 days" (refused 10) ∷

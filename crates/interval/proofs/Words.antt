@@ -1,18 +1,17 @@
 -- White space and unit words in a text: how each begins, and that a unit word ends where white space or the text's end comes.
 -- Assumes nothing.
-use mathlib.Core.Path.{_≡_, refl, sym, ap, _∙_, subst}
-use mathlib.Core.Bool.{Bool, true, false, cond, not, _&&_, _||_, false≢true}
+use mathlib.Core.Path.{_≡_, refl, ap, subst}
+use mathlib.Core.Bool.{Bool, true, false, _&&_, false≢true}
 use mathlib.Core.Logic.{_⊎_, inl, inr, ⊎-elim}
-use mathlib.Core.List.{List, [], _∷_, _++_, append-assoc}
-use mathlib.Core.Option.{Option, none, some}
+use mathlib.Core.List.{List, [], _∷_, _++_}
 use Prim.Native.Nat.{ℕ, zero, suc, _+_, _/_, _%_, _≤_, _<_}
 use Prim.Native.String.{String}
 use native.Mathlib.Omega.{arith}
 use lib.Dec.{eqb, leb, ltb}
 use lib.ListN.{length, getD, take}
-use borrow.Author.Tests.{eqb-true, ne-eqb, leb-true, leb-false, le-leb, ltb-true, ltb-false, lt-ltb, le-ltb}
+use borrow.Author.Tests.{eqb-true, ne-eqb, leb-true, leb-false, le-leb, ltb-true, lt-ltb}
 use Rattle.text.specs.Digits.{within}
-use Rattle.text.specs.Utf8.{scalar, encode, Utf8, nothing, scalar-then}
+use Rattle.text.specs.Utf8.{scalar, encode, Utf8, scalar-then}
 use Rattle.text.specs.WhiteSpace.{whiteSpace, White, white, white1, white2, white3, whiteOf, whiteLen}
 use Rattle.text.proofs.Bools.{and-left, and-right, or-cases, both-ways, by-test, within-is, within-under, within-over}
 use Rattle.text.proofs.WhiteAgrees.{found, measures}

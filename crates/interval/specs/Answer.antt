@@ -1,7 +1,7 @@
 -- What an interval text answers: the units and contributions of its components, the running totals, the refusals 1, 8, 9, 10 and 11 in
 -- order (document 01, "Interval grammar" and "Refusals"). The limit n is the most digits behind a point. Meaning.antt says the same
 -- without computing; `Rattle.interval.proofs.Demand3` joins the two. Assumes nothing.
-use mathlib.Core.Bool.{Bool, true, false, cond, _&&_, _||_}
+use mathlib.Core.Bool.{Bool, false, cond, _&&_, _||_}
 use mathlib.Core.List.{List, [], _∷_}
 use mathlib.Core.Option.{Option, none, some}
 use Prim.Native.Nat.{ℕ, _%_}

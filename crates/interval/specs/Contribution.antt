@@ -1,7 +1,7 @@
 -- What a component contributes: document 01, "Interval grammar", the table of units. A fraction goes to the count that the table names,
 -- cut toward zero, and no further. PostgreSQL 15, section 8.5.4, instead rounds fractions of a year to months, and spills those of a
 -- month into days and microseconds and those of a week into days. The limit n is the most digits behind a point. Assumes nothing.
-use mathlib.Core.Bool.{Bool, cond}
+use mathlib.Core.Bool.{Bool}
 use mathlib.Core.List.{List, [], _∷_}
 use Prim.Native.Nat.{ℕ, _+_, _-_, _*_, _/_, _^_}
 use lib.IntN.{ℤ, pos}
