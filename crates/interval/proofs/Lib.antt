@@ -3,6 +3,7 @@ pub mod Words
 pub mod AmountLaws
 pub mod Agreement
 pub mod Steps
+pub mod Turns
 pub mod Demand3
 pub mod Cuts
 pub mod Readings

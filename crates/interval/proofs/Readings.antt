@@ -11,7 +11,7 @@ use Rattle.text.specs.WhiteSpace.{white1, white2, white3, whiteOf}
 use Rattle.refusal.specs.Outcome.{Outcome, accepted, refused}
 use Rattle.interval.specs.Quoted.{bytes}
 use Rattle.interval.specs.Units.{rank, spellings, same, oneOf, find, low, kelvin, lower, unitOf, present, isUnit}
-use Rattle.interval.specs.Grammar.{wholeFits}
+use Rattle.interval.specs.Grammar.{precision, wholeFits}
 use Rattle.interval.specs.Division.{negative, signLen, pointLen, digitsLen, amountLen, wordLen, endStep, unitStep, restStep, amountStep, step, before, then, divideBy, divide}
 use Rattle.interval.specs.Contribution.{Counts, counts, fracOf, unsignedOf, amountOf, times, wholeTimes, fracTimes, contribution}
 use Rattle.interval.specs.Answer.{orElse, spelled, unitFor, gives, fits, plus, totals, has, twice, onTotals, onDivision, monthDayNano, DayTime, dayTimeOf, toYearMonths, dayTimeFits, toDayTime, orNarrowed, narrowed, yearMonth, dayTime, plainMonthDayNano}
@@ -36,7 +36,7 @@ told (row reader t r) = r
 
 -- the plain month-day-nano reader
 abbrev plain : List ℕ → Outcome Counts → Row
-plain t r = row (λ s. in-counts (plainMonthDayNano 15 s)) t (in-counts r)
+plain t r = row (λ s. in-counts (plainMonthDayNano precision s)) t (in-counts r)
 
 -- it reads months, days and nanoseconds
 abbrev reads : String → ℤ → ℤ → ℤ → Row
@@ -51,10 +51,10 @@ abbrev config : ℕ → IntervalUnit → String → Outcome Counts → Row
 config n u t r = row (λ s. in-counts (monthDayNano n u s)) (bytes t) (in-counts r)
 
 abbrev year-month : String → Outcome ℤ → Row
-year-month t r = row (λ s. in-months (yearMonth 15 s)) (bytes t) (in-months r)
+year-month t r = row (λ s. in-months (yearMonth precision s)) (bytes t) (in-months r)
 
 abbrev day-time : String → Outcome DayTime → Row
-day-time t r = row (λ s. in-days (dayTime 15 s)) (bytes t) (in-days r)
+day-time t r = row (λ s. in-days (dayTime precision s)) (bytes t) (in-days r)
 
 abbrev minus : ℕ → ℤ
 minus k = negℤ (pos k)
@@ -66,7 +66,7 @@ rows =
     reads "1.5 months" (pos 1) (pos 15) (pos 0) ∷
     reads "-.5 days" (pos 0) (pos 0) (minus 43_200_000_000_000) ∷
     reads "0.5 weeks" (pos 0) (pos 0) (pos 302_400_000_000_000) ∷
-    config 15 Month "1 day 2" (accepted (counts (pos 2) (pos 1) (pos 0))) ∷
+    config precision Month "1 day 2" (accepted (counts (pos 2) (pos 1) (pos 0))) ∷
     refuses "1  day" 8 ∷
     refuses "+1 day" 8 ∷
     refuses "1 day 1 d" 9 ∷
@@ -92,6 +92,8 @@ rows =
     reads "-1.999 months" (minus 1) (minus 29) (pos 0) ∷
     reads "-1.999 weeks" (pos 0) (minus 7) (minus 604_195_200_000_000) ∷
     reads "-1.999 nanoseconds" (pos 0) (pos 0) (minus 1) ∷
+    reads "0.999999999999999 weeks" (pos 0) (pos 0) (pos 604_799_999_999_999) ∷
+    reads "0.999999999999999 days" (pos 0) (pos 0) (pos 86_399_999_999_999) ∷
     reads "-0.000000000000001 weeks" (pos 0) (pos 0) (pos 0) ∷
     reads "-0.000000000000002 weeks" (pos 0) (pos 0) (minus 1) ∷
     reads "1c 2dec 3y 4mon 5w 6d 7h 8m 9s 10ms 11us 12nanosecond" (pos 1480) (pos 41) (pos 25_689_010_011_012) ∷
@@ -99,8 +101,8 @@ rows =
     reads "7" (pos 7) (pos 0) (pos 0) ∷
     year-month "7" (accepted (pos 84)) ∷
     day-time "7" (accepted (dayTimeOf (pos 7) (pos 0))) ∷
-    config 15 Century "7" (accepted (counts (pos 8400) (pos 0) (pos 0))) ∷
-    config 15 Nanosecond "-7" (accepted (counts (pos 0) (pos 0) (minus 7))) ∷
+    config precision Century "7" (accepted (counts (pos 8400) (pos 0) (pos 0))) ∷
+    config precision Nanosecond "-7" (accepted (counts (pos 0) (pos 0) (minus 7))) ∷
     refuses "1 month 2" 9 ∷
     -- spelling and white space
     plain (bytes "1 wee" ++ (encode 0x212A ++ bytes " 1 MONTH 1 DAY")) (accepted (counts (pos 1) (pos 8) (pos 0))) ∷

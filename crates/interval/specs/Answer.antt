@@ -18,16 +18,17 @@ use Rattle.interval.specs.Contribution.{Counts, counts, amountOf, contri
 use Rattle.interval.specs.declared.IntervalUnit.{IntervalUnit}
 use Rattle.interval.specs.declared.IntervalUnit.the-variants.{Year, Month, Day}
 
--- the unit spelled, else the default u
+-- the unit found, else the default u
 unfoldable pub orElse : IntervalUnit → Option IntervalUnit → IntervalUnit
 orElse u none = u
 orElse u (some v) = v
 
+-- the unit that a unit word spells; the default u where there is no word
 unfoldable pub spelled : IntervalUnit → Option (List ℕ) → IntervalUnit
 spelled u none = u
 spelled u (some w) = orElse u (unitOf w)
 
--- the unit of a component
+-- the unit of a component: "the one spelled, else the default"
 unfoldable pub unitFor : IntervalUnit → Component → IntervalUnit
 unitFor u c = spelled u (c .unit)
 
@@ -39,7 +40,7 @@ gives n u c = contribution n (unitFor u c) (amountOf n (c .amount))
 unfoldable pub fits : Counts → Bool
 fits c = inSigned 31 (c .months) && (inSigned 31 (c .days) && inSigned 63 (c .nanos))
 
--- count by count
+-- the sum, count by count
 unfoldable pub plus : Counts → Counts → Counts
 plus c k = counts (c .months +ℤ k .months) (c .days +ℤ k .days) (c .nanos +ℤ k .nanos)
 
@@ -72,17 +73,18 @@ unfoldable pub onDivision : ℕ → IntervalUnit → Option (List Component) →
 onDivision n u none = refused 8
 onDivision n u (some d) = cond (twice u d) (refused 9) (onTotals (totals n u zeros d))
 
--- the answer of a text, with the default unit u
+-- the answer of a text, with the default unit u: `parse_interval_month_day_nano_config`
 unfoldable pub monthDayNano : ℕ → IntervalUnit → List ℕ → Outcome Counts
 monthDayNano n u t = cond (utf8 t) (onDivision n u (divide n t)) (refused 1)
 
 -- ---- the narrowed forms
 
--- days and milliseconds
+-- what day-time answers: days and milliseconds
 pub record DayTime : Type 0 where
   pub days : ℤ
   pub millis : ℤ
 
+-- one of them
 abbrev pub dayTimeOf : ℤ → ℤ → DayTime
 dayTimeOf d m = record { days = d; millis = m }
 
@@ -113,11 +115,14 @@ narrowed f (refused k) = refused k
 
 -- ---- the three plain readers, with their default units
 
+-- `parse_interval_year_month`
 unfoldable pub yearMonth : ℕ → List ℕ → Outcome ℤ
 yearMonth n t = narrowed toYearMonths (monthDayNano n Year t)
 
+-- `parse_interval_day_time`
 unfoldable pub dayTime : ℕ → List ℕ → Outcome DayTime
 dayTime n t = narrowed toDayTime (monthDayNano n Day t)
 
+-- `parse_interval_month_day_nano`
 unfoldable pub plainMonthDayNano : ℕ → List ℕ → Outcome Counts
 plainMonthDayNano n t = monthDayNano n Month t

@@ -9,6 +9,7 @@ use lib.ListN.{length, take, drop}
 use Rattle.text.specs.Digits.{value, run}
 use Rattle.number.specs.Widths.{signed}
 use Rattle.interval.specs.Division.{negative, signLen}
+use Rattle.interval.specs.declared.Interval.{Interval}
 use Rattle.interval.specs.declared.IntervalUnit.{IntervalUnit}
 use Rattle.interval.specs.declared.IntervalUnit.the-variants.{Century, Decade, Year, Month, Week, Day, Hour, Minute, Second, Millisecond, Microsecond, Nanosecond}
 
@@ -18,30 +19,36 @@ pub record Value : Type 0 where
   pub integer : ℕ
   pub frac : ℕ
 
+-- one of them
 abbrev pub valued : Bool → ℕ → ℕ → Value
 valued m i f = record { neg = m; integer = i; frac = f }
 
--- the fraction of an amount, from the point on: k digits write it as a number times 10^k
+-- the fraction from the point on, times 10^n: k digits behind the point count 10^(n - k) each
 unfoldable pub fracOf : ℕ → List ℕ → ℕ
 fracOf n [] = 0
 fracOf n (b ∷ f) = value 0 f * 10 ^ (n - length f)
 
--- an amount behind its sign: digits as far as they go, then perhaps a point
+-- what is behind the sign: digits as far as they go, then perhaps a point and the fraction
 unfoldable pub unsignedOf : ℕ → Bool → List ℕ → Value
 unsignedOf n m t = valued m (value 0 (take (run t) t)) (fracOf n (drop (run t) t))
 
--- what an amount says
+-- what an amount says; `Rattle.interval.proofs.AmountLaws` has it for each form of the grammar (`whole-says` and so on)
 unfoldable pub amountOf : ℕ → List ℕ → Value
 amountOf n a = unsignedOf n (negative a) (drop (signLen (negative a)) a)
 
--- the three counts
+-- the three counts, each apart
 pub record Counts : Type 0 where
   pub months : ℤ
   pub days : ℤ
   pub nanos : ℤ
 
+-- some of them
 abbrev pub counts : ℤ → ℤ → ℤ → Counts
 counts m d n = record { months = m; days = d; nanos = n }
+
+-- the counts that the code's `Interval` holds
+abbrev pub countsOf : Interval → Counts
+countsOf i = counts (i .months .0) (i .days .0) (i .nanos .0)
 
 -- the amount times k, cut toward zero
 unfoldable pub times : ℕ → ℕ → Value → ℤ

@@ -1,7 +1,7 @@
 -- Interval texts, as a relation between a text and its division: document 01, "Interval grammar". The page is PostgreSQL 15, section
 -- 8.5.4, "Interval Input": [@] quantity unit [quantity unit...] [direction]. Document 01 takes less of it: no @, no direction (ago),
 -- no plus, no hh:mm:ss without units, none of the ISO 8601 forms, and exactly one white space character where PostgreSQL takes any
--- number. The limit n is the most digits behind a point: document 01 has 15. Division.antt computes the division, and the theorem
+-- number. The limit n is the most digits behind a point. Division.antt computes the division, and the theorem
 -- `Rattle.interval.proofs.Agreement.agrees` says that it is this one. Assumes nothing.
 use mathlib.Core.Path.{_≡_}
 use mathlib.Core.Bool.{Bool, true, false}
@@ -14,6 +14,10 @@ use Rattle.text.specs.WhiteSpace.{White}
 use Rattle.number.specs.Decimal.{Digits}
 use Rattle.number.specs.Widths.{inSigned, signed}
 use Rattle.interval.specs.Units.{isUnit}
+
+-- document 01's limit, the Rust's INTERVAL_PRECISION
+abbrev pub precision : ℕ
+precision = 15
 
 -- "optional minus", and whether it stands there
 pub data Sign : List ℕ → Bool → Type 0 where
@@ -46,6 +50,7 @@ pub record Component : Type 0 where
   pub spaced : Bool
   pub unit : Option (List ℕ)
 
+-- one of them
 abbrev pub component : List ℕ → Bool → Option (List ℕ) → Component
 component a s u = record { amount = a; spaced = s; unit = u }
 
