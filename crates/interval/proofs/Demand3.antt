@@ -153,6 +153,19 @@ module _ (n : ℕ) (u : IntervalUnit) (t : List ℕ) where
   unfolding monthDayNano onDivision
   undivided-answer e = rw e
 
+  -- so a reader that has the division's answer r tests UTF-8 only where r is 8
+  pub but-eight : {r : Outcome Counts} → onDivision n u (divide n t) ≡ r → (r ≡ refused 8 → ⊥) → monthDayNano n u t ≡ r
+  unfolding onDivision
+  but-eight {r} e f = from (divide n t) refl e
+    where
+      from : (o : Option (List Component)) → divide n t ≡ o → onDivision n u o ≡ r → monthDayNano n u t ≡ r
+      from none p q = absurd (f (sym q))
+      from (some d) p q = divided-answer p ∙ q
+
+  pub eight : onDivision n u (divide n t) ≡ refused 8 → monthDayNano n u t ≡ cond (utf8 t) (refused 8) (refused 1)
+  unfolding monthDayNano
+  eight e = rw e
+
   computed : {r : Outcome Counts} → Means n u t r → monthDayNano n u t ≡ r
   unfolding monthDayNano onDivision onTotals
   computed (totalled {d} {e} D once-each R) = divided-answer (agrees n t d .0 D) ∙ rw (once u once-each, runs-totals n u R)

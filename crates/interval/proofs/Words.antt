@@ -4,11 +4,14 @@ use mathlib.Core.Path.{_≡_, refl, ap, subst}
 use mathlib.Core.Bool.{Bool, true, false, _&&_, false≢true}
 use mathlib.Core.Logic.{_⊎_, inl, inr, ⊎-elim}
 use mathlib.Core.List.{List, [], _∷_, _++_}
+use mathlib.Core.Option.{none, some}
 use Prim.Native.Nat.{ℕ, zero, suc, _+_, _/_, _%_, _≤_, _<_}
 use Prim.Native.String.{String}
 use native.Mathlib.Omega.{arith}
+use native.Mathlib.Numerals.{add-one}
 use lib.Dec.{eqb, leb, ltb}
-use lib.ListN.{length, getD, take}
+use lib.ListN.{length, getD, take, drop, drop-of-length-le}
+use lib.Seq.{drop-cons}
 use borrow.Author.Tests.{eqb-true, ne-eqb, leb-true, leb-false, le-leb, ltb-true, lt-ltb}
 use Rattle.text.specs.Digits.{within}
 use Rattle.text.specs.Utf8.{scalar, encode, Utf8, scalar-then}
@@ -17,7 +20,10 @@ use Rattle.text.proofs.Bools.{and-left, and-right, or-cases, both-ways, by-test
 use Rattle.text.proofs.WhiteAgrees.{found, measures}
 use Rattle.interval.specs.Quoted.{bytes}
 use Rattle.interval.specs.Units.{Row, row, spellings, same, oneOf, find, low, kelvin, lower, unitOf, present, isUnit}
+use Rattle.interval.specs.Grammar.{component}
 use Rattle.interval.specs.Division.{wordLen}
+use Rattle.interval.specs.Answer.{orElse, spelled, unitFor}
+use Rattle.interval.specs.declared.IntervalUnit.{IntervalUnit}
 
 -- ---- white space
 
@@ -243,6 +249,40 @@ unfolding wordLen whiteOf white1 white2 white3
 word-run u x no-more e = ends-word x e
 word-run u x (letter {b} {u = v} p q r) e = rw (ascii b (v ++ x) (omega arith) q) (ap suc (word-run v x r e))
 word-run u x (kelvin-sign {u = v} r) e = ap (λ (n : ℕ). suc (suc (suc n))) (word-run v x r e)
+
+-- ---- a word from place i of a text on
+
+module _ (s : List ℕ) (i : ℕ) where
+  pub word-on : i < length s → whiteLen (drop i s) ≡ 0 → wordLen (drop i s) ≡ suc (wordLen (drop (i + 1) s))
+  unfolding wordLen
+  word-on h e = rw (add-one, drop-cons s i 0 h, rw (drop-cons s i 0 h) at e)
+
+  pub word-off : 0 < whiteLen (drop i s) → wordLen (drop i s) ≡ 0
+  word-off h = stops (drop i s) h
+
+  pub word-end : length s ≤ i → wordLen (drop i s) ≡ 0
+  unfolding wordLen
+  word-end h = rw (drop-of-length-le s h)
+
+-- ---- what a word w spells, as the division takes it
+
+module _ (w : List ℕ) where
+  pub spells : {v : IntervalUnit} → unitOf w ≡ some v → isUnit w ≡ true
+  unfolding isUnit present
+  spells e = rw e
+
+  pub spells-none : unitOf w ≡ none → isUnit w ≡ false
+  unfolding isUnit present
+  spells-none e = rw e
+
+  -- and with an amount a, spaced or not, and the default unit u
+  pub unit-spelled : (u : IntervalUnit) (a : List ℕ) (s : Bool) {v : IntervalUnit} → unitOf w ≡ some v → unitFor u (component a s (some w)) ≡ v
+  unfolding unitFor spelled orElse
+  unit-spelled u a s e = rw e
+
+pub unit-default : (u : IntervalUnit) (a : List ℕ) (s : Bool) → unitFor u (component a s none) ≡ u
+unfolding unitFor spelled
+unit-default u a s = refl
 
 -- ---- UTF-8
 

@@ -62,6 +62,9 @@ pub data Complete (n : ℕ) : List ℕ → Component → Type 0 where
 -- a text and its division: "one or more components, parted by one whitespace character", of which "only the last may lack its unit, and
 -- then no whitespace follows its amount"
 pub data Divides (n : ℕ) : List ℕ → List Component → Type 0 where
+  -- an amount alone
   bare : {a : List ℕ} → Amount n a → Divides n a (component a false none ∷ [])
+  -- a component with its unit, and nothing behind it
   last : {t : List ℕ} {c : Component} → Complete n t c → Divides n t (c ∷ [])
+  -- a component with its unit, white space, and what is divided further
   more : {t w r : List ℕ} {c : Component} {d : List Component} → Complete n t c → White w → Divides n r d → Divides n (t ++ (w ++ r)) (c ∷ d)

@@ -17,19 +17,26 @@ use Rattle.interval.specs.declared.IntervalUnit.{IntervalUnit}
 -- running totals: from c, the components leave e; "each component adds its contribution, count by count, to what the one before left,
 -- and all three must fit each time"
 pub data Runs (n : ℕ) (u : IntervalUnit) : Counts → List Component → Counts → Type 0 where
+  -- no component is left
   done : {c : Counts} → Runs n u c [] c
+  -- one more: its contribution fits, and so do the totals with it
   add : {c e : Counts} {p : Component} {d : List Component} → fits (gives n u p) ≡ true → fits (plus c (gives n u p)) ≡ true → Runs n u (plus c (gives n u p)) d e → Runs n u c (p ∷ d) e
 
 -- "a unit comes twice": two components of the list have the same
 pub data Repeats (u : IntervalUnit) : List Component → Type 0 where
   two : (c e : Component) (d d' d'' : List Component) → unitFor u c ≡ unitFor u e → Repeats u (d ++ (c ∷ (d' ++ (e ∷ d''))))
 
--- a text and its answer; a text with a division is UTF-8 (`Rattle.interval.proofs.Agreement.well-formed`)
+-- a text and its answer, the first that holds; a text that has a division is UTF-8 (`Rattle.interval.proofs.Agreement.well-formed`)
 pub data Means (n : ℕ) (u : IntervalUnit) (t : List ℕ) : Outcome Counts → Type 0 where
+  -- a division, no unit twice, and running totals that fit: the last of them
   totalled : {d : List Component} {e : Counts} → Divides n t d → (Repeats u d → ⊥) → Runs n u zeros d e → Means n u t (accepted e)
+  -- the bytes are not well-formed UTF-8
   not-utf8 : (Utf8 t → ⊥) → Means n u t (refused 1)
+  -- no division
   undivided : Utf8 t → ((d : List Component) → Divides n t d → ⊥) → Means n u t (refused 8)
+  -- a division in which a unit comes twice
   repeated : {d : List Component} → Divides n t d → Repeats u d → Means n u t (refused 9)
+  -- a division, no unit twice, and no running totals that fit
   unfit : {d : List Component} → Divides n t d → (Repeats u d → ⊥) → ((e : Counts) → Runs n u zeros d e → ⊥) → Means n u t (refused 10)
 
 -- year-month holds the total months where the total days and nanoseconds are 0
@@ -42,6 +49,9 @@ pub data DayTimes : Counts → DayTime → Type 0 where
 
 -- a text and its answer in a narrowed form, where Holds says what the form makes of counts
 pub data Narrows {A : Type 0} (Holds : Counts → A → Type 0) (n : ℕ) (u : IntervalUnit) (t : List ℕ) : Outcome A → Type 0 where
+  -- the form holds the result
   held : {c : Counts} {v : A} → Means n u t (accepted c) → Holds c v → Narrows Holds n u t (accepted v)
+  -- it cannot
   unheld : {c : Counts} → Means n u t (accepted c) → ((v : A) → Holds c v → ⊥) → Narrows Holds n u t (refused 11)
+  -- the text is refused already
   no-counts : {k : ℕ} → Means n u t (refused k) → Narrows Holds n u t (refused k)
