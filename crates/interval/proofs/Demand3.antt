@@ -224,8 +224,17 @@ module _ {A : Type 0} (Holds : Counts → A → Type 0) (hold : Counts → Optio
   outcome-means (accepted c) M = held-means M (hold c) refl
   outcome-means (refused k) M = no-counts M
 
+  -- a text has an answer
+  pub narrowed-answered : Narrows Holds n u t (narrowed hold (monthDayNano n u t))
+  narrowed-answered = outcome-means (monthDayNano n u t) (answered n u t)
+
+  -- and one only
+  pub one-narrowed : {r q : Outcome A} → Narrows Holds n u t r → Narrows Holds n u t q → r ≡ q
+  one-narrowed R Q = sym (narrowed-computed R) ∙ narrowed-computed Q
+
+  -- an answer is the text's exactly where it is the computed one
   pub narrows : (r : Outcome A) → Narrows Holds n u t r ↔ (narrowed hold (monthDayNano n u t) ≡ r)
-  narrows r = (narrowed-computed, λ e. rw e at (outcome-means (monthDayNano n u t) (answered n u t)))
+  narrows r = (narrowed-computed, λ e. rw e at narrowed-answered)
 
 -- ---- year-month
 

@@ -1,6 +1,6 @@
 -- The answer of a division, component by component from the left, as a loop goes: which units were seen, whether one came again, and the
 -- totals so far, if they fit. Assumes nothing.
-use mathlib.Core.Path.{_≡_, refl, _∙_}
+use mathlib.Core.Path.{_≡_, refl}
 use mathlib.Core.Bool.{Bool, true, false, cond, _&&_, _||_}
 use mathlib.Core.List.{List, [], _∷_}
 use mathlib.Core.Option.{Option, none, some}
