@@ -1,4 +1,5 @@
 // The answer of each reader.
+use crate::line;
 use crate::show;
 
 pub fn of(name: &[u8], text: &[u8]) {
@@ -6,9 +7,63 @@ pub fn of(name: &[u8], text: &[u8]) {
         show::yes_or_no(text::utf8::is_utf8(text));
         return;
     }
+    if check::same(name, b"white") {
+        show::signed(small(text::white::white_at(text, 0)));
+        return;
+    }
     if check::same(name, b"trim") {
         show::text(text::trim::trim_pre_and_post_whitespace(text));
         return;
     }
+    if check::same(name, b"i32") {
+        show::int32(number::parse::parse_i32(text));
+        return;
+    }
+    if check::same(name, b"i64") {
+        show::int64(number::parse::parse_i64(text));
+        return;
+    }
+    if check::same(name, b"u32") {
+        show::nat32(number::parse::parse_u32(text));
+        return;
+    }
+    if check::same(name, b"day") {
+        day(text);
+        return;
+    }
     show::bytes(b"no such reader");
+}
+
+// A length that is shown.
+fn small(n: usize) -> i64 {
+    if n < 4096 { n as i64 } else { -1 }
+}
+
+// The day number of a year, a month and a day, parted by spaces.
+fn day(text: &[u8]) {
+    let a = line::find(text, 0, b' ');
+    if text.len() <= a {
+        show::bytes(b"no month");
+        return;
+    }
+    let b = line::find(text, a + 1, b' ');
+    if text.len() <= b {
+        show::bytes(b"no day");
+        return;
+    }
+    let from_month = a + 1;
+    let from_day = b + 1;
+    let number::Int32::Some(year) = number::parse::parse_i32(&text[..a]) else {
+        show::bytes(b"no year");
+        return;
+    };
+    let number::Nat32::Some(month) = number::parse::parse_u32(&text[from_month..b]) else {
+        show::bytes(b"no month");
+        return;
+    };
+    let number::Nat32::Some(day_of_month) = number::parse::parse_u32(&text[from_day..]) else {
+        show::bytes(b"no day");
+        return;
+    };
+    show::day(calendar::days_from_ymd(year, month, day_of_month));
 }

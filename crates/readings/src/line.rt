@@ -15,7 +15,7 @@ pub fn each(input: &[u8]) {
 }
 
 // The place of the first such byte from a place on, or the end.
-fn find(s: &[u8], from: usize, b: u8) -> usize
+pub fn find(s: &[u8], from: usize, b: u8) -> usize
     requires { ⌜ from ≤ length (now s) ⌝ }
     ensures { λ r. ⌜ (from ≤ r) × Counts r (now (s .entry)) ⌝ }
 {

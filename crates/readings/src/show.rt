@@ -1,8 +1,17 @@
 // What is written: to standard output, with no line end.
-ghost use lib.ListN.{length};
-
 pub fn bytes(s: &[u8]) {
     io::write_all(1, s);
+}
+
+pub fn signed(z: i64) {
+    if z < 0 {
+        bytes(b"-");
+    }
+    io::print_decimal(1, number::sign::magnitude(z));
+}
+
+pub fn signed32(z: i32) {
+    signed(z as i64);
 }
 
 pub fn yes_or_no(test: bool) {
@@ -10,6 +19,34 @@ pub fn yes_or_no(test: bool) {
         bytes(b"yes");
     } else {
         bytes(b"no");
+    }
+}
+
+pub fn int64(r: number::Int64) {
+    match r {
+        number::Int64::Some(z) => signed(z),
+        number::Int64::None => bytes(b"none"),
+    }
+}
+
+pub fn int32(r: number::Int32) {
+    match r {
+        number::Int32::Some(z) => signed32(z),
+        number::Int32::None => bytes(b"none"),
+    }
+}
+
+pub fn nat32(r: number::Nat32) {
+    match r {
+        number::Nat32::Some(n) => signed(n as i64),
+        number::Nat32::None => bytes(b"none"),
+    }
+}
+
+pub fn day(r: calendar::Day) {
+    match r {
+        calendar::Day::Number(z) => signed(z),
+        calendar::Day::None => bytes(b"none"),
     }
 }
 

@@ -1,7 +1,10 @@
 -- The answer of a reader, in which every definition of the project is given: a value, or one number of document 01's list,
 -- "Refusals, in checking order". Assumes nothing.
+use mathlib.Core.Bool.{cond}
+use mathlib.Core.List.{List}
 use Prim.Native.Nat.{ℕ}
 use lib.IntN.{ℤ}
+use Rattle.text.specs.Utf8.{utf8}
 use Rattle.refusal.specs.declared.Read32.{Read32}
 use Rattle.refusal.specs.declared.Read32.the-variants.{Value as Value32, Refused as Refused32}
 use Rattle.refusal.specs.declared.Read64.{Read64}
@@ -32,6 +35,13 @@ numberOf SiteStamp = 12
 -- a refusal as an outcome
 abbrev pub because : {A : Type 0} → Refusal → Outcome A
 because why = refused (numberOf why)
+
+-- 1, that the bytes are no UTF-8, comes before every other refusal of a text
+abbrev pub numberIn : List ℕ → ℕ → ℕ
+numberIn t n = cond (utf8 t) n 1
+
+abbrev pub inUtf8 : {A : Type 0} → List ℕ → Outcome A → Outcome A
+inUtf8 t o = cond (utf8 t) o (refused 1)
 
 -- go on with an accepted value; a refusal stands
 abbrev pub andThen : {A B : Type 0} → Outcome A → (A → Outcome B) → Outcome B

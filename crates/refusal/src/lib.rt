@@ -1,6 +1,6 @@
 // Why a text is refused: the list of document 01, in checking order.
 ghost use mathlib.Core.Path.{_≡_};
-ghost use Rattle.refusal.specs.Outcome.{numberOf};
+ghost use Rattle.refusal.specs.Outcome.{numberOf, numberIn};
 
 pub enum Refusal {
     // The bytes are not well-formed UTF-8.
@@ -59,6 +59,17 @@ impl Refusal {
             Refusal::Overflow => 10,
             Refusal::Narrowed => 11,
             Refusal::SiteStamp => 12,
+        }
+    }
+
+    // A refusal of a text: that its bytes are no UTF-8 comes first.
+    pub fn of(self, text: &[u8]) -> Refusal
+        ensures { λ r. ⌜ numberOf r ≡ numberIn (now (text .entry)) (numberOf self) ⌝ }
+    {
+        if text::utf8::is_utf8(text) {
+            self
+        } else {
+            Refusal::NotUtf8
         }
     }
 }

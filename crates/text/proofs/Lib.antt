@@ -9,3 +9,4 @@ pub mod Utf8Agrees
 pub mod WhiteAgrees
 pub mod TrimLaws
 pub mod TrimAgrees
+pub mod Ascii

@@ -17,7 +17,7 @@ use Rattle.text.proofs.Utf8Rows.{bytes, row-00, row-80, row-C2, row-E0,
 
 -- ---- what a character's bytes leave to read
 
-lead : (low high b : ℕ) (t : List ℕ) (n l h : ℕ) → follows table b ≡ bytes n l h → wellFormed 0 low high (b ∷ t) ≡ wellFormed n l h t
+pub lead : (low high b : ℕ) (t : List ℕ) (n l h : ℕ) → follows table b ≡ bytes n l h → wellFormed 0 low high (b ∷ t) ≡ wellFormed n l h t
 unfolding wellFormed
 lead low high b t n l h e = ap (λ (f : Follow). wellFormed (f .count) (f .low) (f .high) t) e
 

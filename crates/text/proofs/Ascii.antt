@@ -1,0 +1,46 @@
+-- ASCII texts are well-formed UTF-8. Assumes nothing.
+use mathlib.Core.Path.{_≡_, refl, _∙_}
+use mathlib.Core.Bool.{Bool, true, _&&_}
+use mathlib.Core.List.{List, [], _∷_, _++_}
+use Prim.Native.Nat.{ℕ, _<_}
+use native.Mathlib.Omega.{arith}
+use lib.Dec.{ltb}
+use borrow.Author.Tests.{lt-ltb, ltb-true}
+use Rattle.text.specs.Digits.{isDigit, digits}
+use Rattle.text.specs.Utf8.{wellFormed, utf8}
+use Rattle.text.proofs.Bools.{and-left, and-right, within-is}
+use Rattle.text.proofs.Utf8Rows.{row-00}
+use Rattle.text.proofs.Utf8Agrees.{lead}
+
+-- every byte is below 80
+unfoldable pub ascii : List ℕ → Bool
+ascii [] = true
+ascii (b ∷ t) = ltb b 0x80 && ascii t
+
+pub ascii-cons : (b : ℕ) (t : List ℕ) → b < 0x80 → ascii t ≡ true → ascii (b ∷ t) ≡ true
+unfolding ascii
+ascii-cons b t h e = rw (lt-ltb b 0x80 h, e)
+
+pub ascii-append : (s t : List ℕ) → ascii s ≡ true → ascii t ≡ true → ascii (s ++ t) ≡ true
+unfolding ascii
+ascii-append [] t e f = f
+ascii-append (b ∷ s) t e f =
+    rw (and-left (ltb b 0x80) (ascii s) e) (ascii-append s t (and-right (ltb b 0x80) (ascii s) e) f)
+
+pub ascii-nil : ascii [] ≡ true
+unfolding ascii
+ascii-nil = refl
+
+pub ascii-digits : (t : List ℕ) → digits t ≡ true → ascii t ≡ true
+unfolding ascii digits
+ascii-digits [] e = refl
+ascii-digits (b ∷ t) e =
+    let w = within-is 0x30 b 0x39 (and-left (isDigit b) (digits t) e) in
+    ascii-cons b t (omega arith) (ascii-digits t (and-right (isDigit b) (digits t) e))
+
+pub ascii-utf8 : (t : List ℕ) → ascii t ≡ true → utf8 t ≡ true
+unfolding ascii wellFormed
+ascii-utf8 [] e = refl
+ascii-utf8 (b ∷ t) e =
+    let h = ltb-true b 0x80 (and-left (ltb b 0x80) (ascii t) e) in
+    lead 0x80 0xBF b t 0 0x80 0xBF (row-00 b (omega arith)) ∙ ascii-utf8 t (and-right (ltb b 0x80) (ascii t) e)

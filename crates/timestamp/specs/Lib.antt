@@ -1,0 +1,4 @@
+-- What the contracts of `timestamp` cite.
+pub mod Clock
+pub mod Grammar
+pub mod Answer

@@ -1,0 +1,135 @@
+// The Rust's `TimestampParser`, over the text itself: its bytes less 48, wrapping, by their places.
+use crate::Time;
+use crate::TimeAndEnd;
+use crate::clock;
+use calendar::Day;
+use text::digits::digit;
+ghost use mathlib.Core.Path.{_≡_};
+ghost use mathlib.Core.Bool.{cond};
+ghost use Prim.Native.Nat.{_+_, _≤_, _<_};
+ghost use lib.ListN.{length, drop};
+ghost use Rattle.calendar.specs.Calendar.{day};
+ghost use Rattle.timestamp.specs.Answer.{twoDigits, twoAt, dayOf, basicTime, afterSeconds, timeOf, timedAt, endsAt};
+
+// The separators as digits: each byte less 48, wrapping.
+const HYPHEN: u8 = 253;
+
+const COLON: u8 = 10;
+
+const POINT: u8 = 254;
+
+// The number of the two digits at a place, and 255 where one of them is no digit.
+pub fn two(s: &[u8], at: usize) -> u8
+    requires { ⌜ at + 1 < length (now s) ⌝ }
+    ensures { λ r. ⌜ r ≡ cond (twoDigits (now (s .entry)) at) (twoAt (now (s .entry)) at) 255 ⌝ }
+{
+    let a = digit(s[at]);
+    let b = digit(s[at + 1]);
+    if 10 <= a {
+        return 255;
+    }
+    if 10 <= b {
+        return 255;
+    }
+    a * 10 + b
+}
+
+// Parses a date of the form `1997-01-31`.
+pub fn date(s: &[u8]) -> Day
+    requires { ⌜ 10 ≤ length (now s) ⌝ }
+    ensures { λ r. ⌜ day r ≡ dayOf (now (s .entry)) ⌝ }
+{
+    let century = two(s, 0);
+    let year = two(s, 2);
+    let month = two(s, 5);
+    let day_of_month = two(s, 8);
+    let shape = (century < 100)
+        & ((year < 100)
+            & ((digit(s[4]) == HYPHEN)
+                & ((month < 100) & ((digit(s[7]) == HYPHEN) & (day_of_month < 100)))));
+    if !shape {
+        return Day::None;
+    }
+    calendar::days_from_ymd(
+        century as i32 * 100 + year as i32,
+        month as u32,
+        day_of_month as u32,
+    )
+}
+
+// Parses a time of any of the forms, from byte 11 on
+// - `09:26:56`
+// - `09:26:56.123`
+// - `092656`
+// with the place where it ends.
+pub fn time(s: &[u8]) -> TimeAndEnd
+    requires { ⌜ 11 ≤ length (now s) ⌝ }
+    ensures { λ r. ⌜ endsAt (now (s .entry)) r ≡ timeOf (drop 11 (now (s .entry))) ⌝ }
+{
+    if s.len() < 17 {
+        return TimeAndEnd::None;
+    }
+    if s.len() < 19 {
+        return basic(s);
+    }
+    let hour = two(s, 11);
+    let minute = two(s, 14);
+    let second = two(s, 17);
+    let colons = (hour < 100)
+        & ((digit(s[13]) == COLON) & ((minute < 100) & ((digit(s[16]) == COLON) & (second < 100))));
+    if !colons {
+        return basic(s);
+    }
+    after_seconds(s, hour, minute, second)
+}
+
+// What follows the seconds, from byte 19 on: a point and digits, of which all are passed over, or no fraction.
+fn after_seconds(s: &[u8], hour: u8, minute: u8, second: u8) -> TimeAndEnd
+    requires { ⌜ 19 ≤ length (now s) ⌝ }
+    ensures { λ r. ⌜ endsAt (now (s .entry)) r ≡ afterSeconds hour minute second (drop 19 (now (s .entry))) ⌝ }
+{
+    if s.len() == 19 {
+        return at(s, hour, minute, second, 0, 19);
+    }
+    if digit(s[19]) != POINT {
+        return at(s, hour, minute, second, 0, 19);
+    }
+    let end = text::digits::run_end(s, 20);
+    if end == 20 {
+        return TimeAndEnd::None;
+    }
+    let nanos = clock::parse_nanos(&s[20..end], end - 20);
+    at(s, hour, minute, second, nanos, end)
+}
+
+// `092656`, with no digit in the two bytes after it.
+fn basic(s: &[u8]) -> TimeAndEnd
+    requires { ⌜ 17 ≤ length (now s) ⌝ }
+    ensures { λ r. ⌜ endsAt (now (s .entry)) r ≡ basicTime (drop 11 (now (s .entry))) ⌝ }
+{
+    let hour = two(s, 11);
+    let minute = two(s, 13);
+    let second = two(s, 15);
+    let end = text::digits::run_end(s, 17);
+    let shape = (hour < 100) & ((minute < 100) & ((second < 100) & (end == 17)));
+    if !shape {
+        return TimeAndEnd::None;
+    }
+    if 18 < s.len() {
+        if digit(s[18]) < 10 {
+            return TimeAndEnd::None;
+        }
+    }
+    at(s, hour, minute, second, 0, 17)
+}
+
+// The time with these fields, if they are in range, and its end.
+fn at(s: &[u8], hour: u8, minute: u8, second: u8, nanos: u32, end: usize) -> TimeAndEnd
+    requires { ⌜ nanos < 1000000000 ⌝ }
+    ensures { λ r. ⌜ endsAt (now (s .entry)) r ≡ timedAt hour minute second nanos (drop end (now (s .entry))) ⌝ }
+{
+    match clock::from_hms_nano(hour, minute, second, nanos) {
+        Time::At(t) => TimeAndEnd::At(t, end),
+        Time::None => TimeAndEnd::None,
+    }
+}

@@ -1,0 +1,153 @@
+// Stamps.
+use crate::DateTime;
+use crate::NaiveDateTime;
+use crate::NaiveTime;
+use crate::TimeAndEnd;
+use crate::parser;
+use calendar::Day;
+use number::Int64;
+use refusal::Read64;
+use refusal::Refusal;
+use text::digits::digit;
+ghost use mathlib.Core.Path.{_≡_};
+ghost use mathlib.Core.Bool.{cond};
+ghost use Prim.Native.Nat.{_≤_};
+ghost use lib.ListN.{length, drop};
+ghost use lib.IntN.{pos, _+ℤ_, _*ℤ_};
+ghost use Rattle.number.specs.Widths.{fit, int64};
+ghost use Rattle.refusal.specs.Outcome.{outcome64};
+ghost use Rattle.timestamp.specs.Clock.{nanosOfDay};
+ghost use Rattle.timestamp.specs.Answer.{isEnding, isSeparator, plainMoment, afterDate, atEnd, datetime, stampNanos, instant, inNanos, momentOf, momentIs};
+
+// T, t and a space as digits: each byte less 48, wrapping.
+const CAPITAL_T: u8 = 36;
+
+const SMALL_T: u8 = 68;
+
+const SPACE: u8 = 240;
+
+// Reads a stamp in UTC
+// * `1997-01-31T09:26:56.123Z`        # RFC 3339
+// * `1997-01-31T09:26:56.123`         # no offset
+// * `1997-01-31 09:26:56`             # a space, no fraction
+// * `1997-01-31 092656`               # no colons
+// * `1997-01-31`                      # only a date
+//
+// A text that is read is ASCII, so UTF-8 is looked at only where a text is refused.
+pub fn string_to_datetime(s: &[u8]) -> DateTime
+    ensures { λ r. ⌜ momentIs r ≡ datetime (now (s .entry)) ⌝ }
+{
+    match plain(s) {
+        DateTime::At(x) => DateTime::At(x),
+        DateTime::Refused(why) => DateTime::Refused(why.of(s)),
+    }
+}
+
+fn plain(s: &[u8]) -> DateTime
+    ensures { λ r. ⌜ momentIs r ≡ plainMoment (now (s .entry)) ⌝ }
+{
+    if s.len() < 10 {
+        return DateTime::Refused(Refusal::Date);
+    }
+    match parser::date(s) {
+        Day::Number(day) => after_date(s, day),
+        Day::None => DateTime::Refused(Refusal::Date),
+    }
+}
+
+fn after_date(s: &[u8], day: i64) -> DateTime
+    requires { ⌜ 10 ≤ length (now s) ⌝ }
+    ensures { λ r. ⌜ momentIs r ≡ afterDate (now (s .entry)) day ⌝ }
+{
+    if s.len() == 10 {
+        return DateTime::At(NaiveDateTime {
+            day,
+            time: NaiveTime { secs: 0, frac: 0 },
+        });
+    }
+    let b = digit(s[10]);
+    let separator = (b == CAPITAL_T) | ((b == SMALL_T) | (b == SPACE));
+    if !separator {
+        return DateTime::Refused(Refusal::Separator);
+    }
+    match parser::time(s) {
+        TimeAndEnd::At(time, end) => at_end(s, day, time, end),
+        TimeAndEnd::None => DateTime::Refused(Refusal::Time),
+    }
+}
+
+fn at_end(s: &[u8], day: i64, time: NaiveTime, end: usize) -> DateTime
+    ensures { λ r. ⌜ momentIs r ≡ atEnd day (record { nanos = nanosOfDay time; tail = drop end (now (s .entry)) }) ⌝ }
+{
+    if is_ending(s, end) {
+        DateTime::At(NaiveDateTime { day, time })
+    } else {
+        DateTime::Refused(Refusal::Tail)
+    }
+}
+
+// Nothing, or a single z or Z.
+fn is_ending(s: &[u8], end: usize) -> bool
+    ensures { λ r. ⌜ r ≡ isEnding (drop end (now (s .entry))) ⌝ }
+{
+    if s.len() <= end {
+        return true;
+    }
+    if s.len() - end != 1 {
+        return false;
+    }
+    (s[end] == b'Z') | (s[end] == b'z')
+}
+
+// Nanoseconds since 1970-01-01, where they fit.
+pub fn to_timestamp_nanos(dt: NaiveDateTime) -> Int64
+    ensures { λ r. ⌜ int64 r ≡ fit 63 (instant (momentOf dt)) ⌝ }
+{
+    let day = dt.day;
+    let time = dt.time;
+    if day < -200_000 {
+        return Int64::None;
+    }
+    if 200_000 < day {
+        return Int64::None;
+    }
+    nanos_of(day * 86_400 + time.secs as i64, time.frac)
+}
+
+// Seconds and nanoseconds, as nanoseconds, where they fit. The size is put together before the sign, so that the least number is reached.
+fn nanos_of(secs: i64, nanos: u32) -> Int64
+    ensures { λ r. ⌜ int64 r ≡ fit 63 (secs *ℤ pos 1000000000 +ℤ pos nanos) ⌝ }
+{
+    let m = number::sign::magnitude(secs);
+    if 9_300_000_000 < m {
+        return Int64::None;
+    }
+    let whole = m * 1_000_000_000;
+    let part = nanos as u64;
+    if 0 <= secs {
+        return number::sign::signed_i64(false, whole + part);
+    }
+    if part <= whole {
+        number::sign::signed_i64(true, whole - part)
+    } else {
+        number::sign::signed_i64(false, part - whole)
+    }
+}
+
+fn in_nanos(x: NaiveDateTime) -> Read64
+    ensures { λ r. ⌜ outcome64 r ≡ inNanos (instant (momentOf x)) ⌝ }
+{
+    match to_timestamp_nanos(x) {
+        Int64::Some(z) => Read64::Value(z),
+        Int64::None => Read64::Refused(Refusal::Range),
+    }
+}
+
+pub fn string_to_timestamp_nanos(s: &[u8]) -> Read64
+    ensures { λ r. ⌜ outcome64 r ≡ stampNanos (now (s .entry)) ⌝ }
+{
+    match string_to_datetime(s) {
+        DateTime::At(x) => in_nanos(x),
+        DateTime::Refused(why) => Read64::Refused(why),
+    }
+}
