@@ -63,7 +63,7 @@ at-rank Millisecond = refl
 at-rank Microsecond = refl
 at-rank Nanosecond = refl
 
-same-unit : (u v : IntervalUnit) → eqb (rank u) (rank v) ≡ true → u ≡ v
+pub same-unit : (u v : IntervalUnit) → eqb (rank u) (rank v) ≡ true → u ≡ v
 same-unit u v e = sym (at-rank u) ∙ ap (λ (k : ℕ). getD units k Century) (eqb-true (rank u) (rank v) e) ∙ at-rank v
 
 module _ (u : IntervalUnit) where

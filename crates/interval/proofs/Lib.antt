@@ -7,3 +7,6 @@ pub mod Turns
 pub mod Demand3
 pub mod Cuts
 pub mod Readings
+pub mod Keying
+pub mod Packing
+pub mod Amounts

@@ -20,6 +20,7 @@ use Rattle.text.proofs.Bools.{and-left, and-right, or-cases, both-ways, by-test
 use Rattle.text.proofs.WhiteAgrees.{found, measures}
 use Rattle.interval.specs.Quoted.{bytes}
 use Rattle.interval.specs.Units.{Row, row, spellings, same, oneOf, find, low, kelvin, lower, unitOf, present, isUnit}
+use Rattle.interval.specs.Keys.{lowered}
 use Rattle.interval.specs.Grammar.{component}
 use Rattle.interval.specs.Division.{wordLen}
 use Rattle.interval.specs.Answer.{orElse, spelled, unitFor}
@@ -93,11 +94,6 @@ pub data Letters : List ℕ → Type 0 where
   letter : {b : ℕ} {u : List ℕ} → 0x39 < b → b < 0x80 → Letters u → Letters (b ∷ u)
   kelvin-sign : {u : List ℕ} → Letters u → Letters (0xE2 ∷ 0x84 ∷ 0xAA ∷ u)
 
--- letters a to z
-unfoldable lowered : List ℕ → Bool
-lowered [] = true
-lowered (b ∷ t) = within 0x61 b 0x7A && lowered t
-
 -- one or more of them
 unfoldable plain : List ℕ → Bool
 plain [] = false
@@ -166,7 +162,7 @@ is-kelvin b c d t e r =
     )
     (kelvin-sign r)
 
-lower-letters : (u : List ℕ) → lowered (lower u) ≡ true → Letters u
+pub lower-letters : (u : List ℕ) → lowered (lower u) ≡ true → Letters u
 unfolding lower lowered
 lower-letters [] e = no-more
 lower-letters (b ∷ []) e = one-more b [] [] (λ h. no-more) e
@@ -182,9 +178,12 @@ plain-lowered [] e = absurd (false≢true e)
 plain-lowered (b ∷ t) e = e
 
 -- a unit word is of letters
-pub unit-letters : (u : List ℕ) → isUnit u ≡ true → Letters u
+pub unit-lowered : (u : List ℕ) → isUnit u ≡ true → lowered (lower u) ≡ true
 unfolding isUnit unitOf
-unit-letters u e = lower-letters u (plain-lowered (lower u) (find-plain (lower u) spellings spellings-plain e))
+unit-lowered u e = plain-lowered (lower u) (find-plain (lower u) spellings spellings-plain e)
+
+pub unit-letters : (u : List ℕ) → isUnit u ≡ true → Letters u
+unit-letters u e = lower-letters u (unit-lowered u e)
 
 -- the empty word is none
 no-word : isUnit [] ≡ false

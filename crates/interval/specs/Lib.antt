@@ -6,3 +6,5 @@ pub mod Division
 pub mod Contribution
 pub mod Answer
 pub mod Meaning
+pub mod Keys
+pub mod Read
