@@ -12,6 +12,7 @@ use lib.Pow.{pow-add}
 use lib.IntN.{ℤ, pos, negℤ, natAbs, _-ℤ_}
 use lib.ListN.{length, getD, take, drop, length-drop, List·getD-eq-default}
 use lib.Seq.{getD-drop, drop-drop, drop-cons, length-take-le}
+use lib.Signed.{mag}
 use mir.Syntax.{w64}
 use mir.Val.{SFits, toZ}
 use mir.Facts.{toZ-ofZ, toZ-pos}
@@ -97,15 +98,18 @@ size-over false m h = le-ltb m 9_223_372_036_854_775_808 (omega arith)
 
 -- m is the number v, or the cap where it is more
 module _ (neg : Bool) (v : ℕ) {m : ℕ} (e : m ≡ min v cap) where
-  -- it fits, as z
-  pub whole-fits : {z : ℤ} → some z ≡ fit 63 (signed neg m) → (z ≡ signed neg v) × (wholeFits neg v ≡ true)
+  -- it fits, as z, which the machine reads back
+  pub whole-fits : {z : ℤ} → some z ≡ fit 63 (signed neg m) → (rd w64 z ≡ signed neg v) × (wholeFits neg v ≡ true)
   unfolding wholeFits
   whole-fits {z} h =
       by-test (inSigned 63 (signed neg m))
       (λ f.
       let q : some z ≡ some (signed neg m) = h ∙ rw f in
       let p : m ≡ v = omega (arith, fits-size neg m f) in
-      (rw p at (some-is q), rw p at f))
+      let g : inSigned 63 (signed neg v) ≡ true = rw p at f in
+      let r : z ≡ signed neg v = rw p at (some-is q) in
+      let t : SFits w64 (signed neg v) = record { sfits = ltb-true (mag (signed neg v)) (2 ^ 63) g } in
+      (rw (r, toZ-ofZ t), g))
       (λ f. absurd (Option·none-ne-some z (sym (h ∙ rw f))))
     where
       some-is : {x y : ℤ} → some x ≡ some y → x ≡ y
@@ -132,13 +136,16 @@ abs-signed true zero = refl
 abs-signed true (suc m) = refl
 abs-signed false m = refl
 
+-- a byte that is not 0 stands in the text
+at-byte : (s : List ℕ) (i : ℕ) → 0 < getD s i 0 → i + 1 ≤ length s
+at-byte s i h =
+    by-test (ltb i (length s))
+    (λ e. omega (arith, ltb-true i (length s) e))
+    (λ e. absurd (omega (arith, List·getD-eq-default s 0 (ltb-false i (length s) e))))
+
 pub sign-minus : (s : List ℕ) (at : ℕ) → getD s at 0 ≡ 0x2D → (true ≡ negative (drop at s)) × (at + 1 ≡ at + signLen true) × (at + 1 ≤ length s)
 unfolding negative signLen
-sign-minus s at h = (rw (getD-drop at s 0 0, add-zero, h), refl, inside (ltb at (length s)) refl)
-  where
-    inside : (b : Bool) → ltb at (length s) ≡ b → at + 1 ≤ length s
-    inside true e = omega (arith, ltb-true at (length s) e)
-    inside false e = absurd (omega (arith, List·getD-eq-default s 0 (ltb-false at (length s) e)))
+sign-minus s at h = (rw (getD-drop at s 0 0, add-zero, h), refl, at-byte s at (omega arith))
 
 pub sign-none : (s : List ℕ) (at : ℕ) → (getD s at 0 ≡ 0x2D → ⊥) → (false ≡ negative (drop at s)) × (at ≡ at + signLen false)
 unfolding negative signLen
@@ -176,19 +183,32 @@ module _ (s : List ℕ) (at from : ℕ) (neg : Bool) (N : neg ≡ negative (drop
       pub no-amount : next ≡ from → amountLen precision (drop at s) ≡ 0
       no-amount e = let z : run (drop from s) ≡ 0 = omega arith in bare-len ∙ rw z
 
-      pub bare : (next ≡ from → ⊥) → next ≤ length s → ReadIs s at (record { integer = signed neg wv; frac = pos 0 }) next
-      bare e i =
+      pub bare : (next ≡ from → ⊥) → next ≤ length s → {z : ℤ} → z ≡ signed neg wv → ReadIs s at (record { integer = z; frac = pos 0 }) next
+      bare e i Z =
           let l : amountLen precision (drop at s) ≡ signLen neg + run (drop from s) = bare-len ∙ rw (lt-ltb 0 (run (drop from s)) (omega (arith, e))) in
           let k : next - at ≡ signLen (negative (drop at s)) + run (behind (drop at s)) = rw (behind-is, ← N) (omega arith) in
           record {
             further = omega (arith, e);
             inside = i;
             end-is = omega arith;
-            says = rw (k, whole-value precision (drop at s), behind-is, ← N, signed-none neg);
+            says = rw (k, whole-value precision (drop at s), behind-is, ← N, signed-none neg, Z);
             small = omega arith;
           }
 
-  -- a point follows, and behind it the digits from place p to end
+    -- a point does
+    pub point-at : getD s next 0 ≡ 0x2E → {z : ℤ} → z ≡ signed neg wv → PointAt s at (next + 1) neg z
+    point-at h {z} Z =
+        let e : next + 1 - 1 ≡ next = omega arith in
+        record {
+          sign-is = N;
+          place = rw (← F) (omega arith);
+          inside = at-byte s next (omega arith);
+          point = rw e h;
+          integer-is = rw (← F) Z;
+          fitting = rw (← F) fits;
+        }
+
+  -- and behind it the digits from place p on
 
   module _ (fits : wholeFits neg wv ≡ true) (p : ℕ) (X : p ≡ from + (run (drop from s) + 1)) (point : getD s (p - 1) 0 ≡ 0x2E) where
     next-is : p - 1 ≡ from + run (drop from s)

@@ -10,3 +10,4 @@ pub mod Readings
 pub mod Keying
 pub mod Packing
 pub mod Amounts
+pub mod Pieces

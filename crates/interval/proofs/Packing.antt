@@ -1,21 +1,23 @@
 -- The letters of a unit word as a loop packs them: one letter more, and where no longer word is a unit. Assumes nothing.
 use mathlib.Core.Path.{_≡_, refl, sym, ap, _∙_}
 use mathlib.Core.Bool.{Bool, true, false, _&&_, false≢true}
-use mathlib.Core.List.{List, [], _∷_, _++_, append-assoc}
+use mathlib.Core.List.{List, [], _∷_, _++_, append-assoc, append-nil}
 use mathlib.Core.Option.{none}
 use Prim.Native.Nat.{ℕ, suc, zero, _+_, _-_, _*_, _≤_, _<_}
-use native.Mathlib.Nat.{add-zero}
+use native.Mathlib.Nat.{add-zero, sub-zero}
 use native.Mathlib.Omega.{arith}
 use lib.Dec.{eqb}
-use lib.ListN.{length, getD, take, drop, length-drop, drop-of-length-le}
-use lib.Seq.{getD-drop, drop-drop, take-add}
+use lib.ListN.{length, getD, take, drop, length-drop, take-append-drop}
+use lib.Seq.{getD-drop, drop-drop, take-add, take-all}
 use borrow.Author.Tests.{eqb-true, ne-eqb}
 use Rattle.text.specs.Digits.{within}
 use Rattle.text.proofs.Bools.{and-left, and-right, and-false, by-test, within-is, within-yes, within-under, within-over}
-use Rattle.interval.specs.Units.{low, kelvin, lower, unitOf}
-use Rattle.interval.specs.Keys.{lowered, keyOn, codeOf, letterOf, Packed}
+use Rattle.interval.specs.Units.{spellings, low, kelvin, lower, unitOf}
+use Rattle.interval.specs.Keys.{lowered, keyOn, byKey, codeOf, letterOf, Packed, LettersIs}
 use Rattle.interval.specs.declared.Letter.{Letter}
-use Rattle.interval.proofs.Keying.{not-lowered, too-large}
+use Rattle.interval.specs.declared.Letters.{Letters as LettersRead}
+use Rattle.interval.proofs.Words.{Letters, lower-letters}
+use Rattle.interval.proofs.Keying.{unit-by-key, not-lowered, too-large}
 
 -- ---- a letter, by its first byte
 
@@ -223,3 +225,25 @@ module _ (s : List ℕ) (from i k : ℕ) (h : from ≤ i) (p : i < length s) (P 
           letters-are = λ x. rw (append-assoc (take (i - from) (drop from s)) (take (l .width) (drop i s)) x) (P .letters-are (take (l .width) (drop i s) ++ x) ∙ F .lowered-on x);
         });
       }
+
+-- ---- the unit of letters that are packed
+
+module _ {u : List ℕ} {k : ℕ} (P : Packed u k) where
+  alone : lowered (lower u) ≡ true
+  unfolding lowered lower
+  alone = rw append-nil at (P .letters-are [])
+
+  pub packed-letters : Letters u
+  packed-letters = lower-letters u alone
+
+  pub packed-unit : byKey k spellings ≡ unitOf u
+  unfolding keyOn lower
+  packed-unit = let e : keyOn 0 (lower u) ≡ k = rw append-nil at (P .key-is []) in rw (← e) (unit-by-key u alone)
+
+-- a word is its letters, or it goes on behind them and is no unit
+module _ (s : List ℕ) (r : LettersRead) (L : LettersIs s 0 r) where
+  pub word-letters : length s ≤ r .end → byKey (r .key) spellings ≡ unitOf s
+  word-letters h = rw (sub-zero, take-all (r .end) s h) at (packed-unit (L .packed))
+
+  pub word-longer : r .end < length s → none ≡ unitOf s
+  word-longer h = sym (rw (sub-zero, take-all (length s) (drop (r .end) s) (omega (arith, length-drop (r .end) s)), take-append-drop (r .end) s) at (L .longest (length s) (omega arith) h))

@@ -242,12 +242,16 @@ unfolding wordLen
 ends-word x at-end = refl
 ends-word x (at-white {w} r W) = stops (w ++ r) (rw (measures W r) (white-some W))
 
+-- letters are of the word that they begin
+pub word-past : (u x : List ℕ) → Letters u → wordLen (u ++ x) ≡ length u + wordLen x
+unfolding wordLen whiteOf white1 white2 white3
+word-past u x no-more = omega arith
+word-past u x (letter {b} {u = v} p q r) = rw (ascii b (v ++ x) (omega arith) q) (omega (arith, word-past v x r))
+word-past u x (kelvin-sign {u = v} r) = omega (arith, word-past v x r)
+
 -- a unit word runs up to the end, or to the next white space
 pub word-run : (u x : List ℕ) → Letters u → Ends x → wordLen (u ++ x) ≡ length u
-unfolding wordLen whiteOf white1 white2 white3
-word-run u x no-more e = ends-word x e
-word-run u x (letter {b} {u = v} p q r) e = rw (ascii b (v ++ x) (omega arith) q) (ap suc (word-run v x r e))
-word-run u x (kelvin-sign {u = v} r) e = ap (λ (n : ℕ). suc (suc (suc n))) (word-run v x r e)
+word-run u x r e = omega (arith, word-past u x r, ends-word x e)
 
 -- ---- a word from place i of a text on
 

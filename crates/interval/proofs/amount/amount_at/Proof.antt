@@ -1,32 +1,30 @@
+-- `interval::amount::amount_at` meets its contract, by the laws of a sign. Assumes nothing.
 use borrow.Author.Needs.{needs}
+use mathlib.Core.Path.{sym, _∙_}
+use Rattle.interval.proofs.Amounts.{sign-minus, sign-none}
 use Rattle.interval.proofs.amount.amount_at.Statement.{statement}
 use Rattle.interval.proofs.amount.amount_at.Tie as tie
-use Rattle.interval.proofs.amount.amount_at.Reads as reads
-use Rattle.interval.proofs.amount.amount_at.Lts as lts
-use Rattle.interval.proofs.amount.unsigned_at.Reads as unsigned-at-reads
-use Rattle.text.proofs.white.byte_at.Reads as byte-at-reads
 
--- src/amount.rt:129:8
 byte-at-requires : tie.Need-byte-at-requires
 byte-at-requires c κs = search needs
 
--- src/amount.rt:130:31
 add-unsigned-at : tie.Need-add-unsigned-at
 add-unsigned-at c = search needs
 
--- src/amount.rt:130:9
 unsigned-at-requires : tie.Need-unsigned-at-requires
-unsigned-at-requires c κs = ?
+unsigned-at-requires c κs =
+    let x = c .before .before .before .args in
+    sign-minus (x .text .now) (x .at) (sym (c .before .byte-at .ensures) ∙ c .if1 .taken)
 
--- src/amount.rt:132:9
 unsigned-at-requires-2 : tie.Need-unsigned-at-requires-2
-unsigned-at-requires-2 c κs = ?
+unsigned-at-requires-2 c κs =
+    let x = c .before .before .before .args in
+    let n = sign-none (x .text .now) (x .at) (λ e. c .if1 .left (c .before .byte-at .ensures ∙ e)) in
+    (n .0, n .1, c .before .before .before .pre)
 
--- src/amount.rt:125:1
 returns : tie.Need-returns
 returns c = search needs
 
--- src/amount.rt:125:1
 returns-2 : tie.Need-returns-2
 returns-2 c = search needs
 

@@ -1,34 +1,33 @@
+-- `interval::split::split_interval_component` meets its contract: an amount and what follows it, or no amount. Assumes nothing.
 use borrow.Author.Needs.{needs}
+use Rattle.interval.specs.Grammar.{precision}
+use Rattle.interval.specs.Read.{amountIs, pieceIs}
+use Rattle.interval.proofs.Steps.{no-amount}
 use Rattle.interval.proofs.split.split_interval_component.Statement.{statement}
 use Rattle.interval.proofs.split.split_interval_component.Tie as tie
-use Rattle.interval.proofs.split.split_interval_component.Reads as reads
-use Rattle.interval.proofs.split.split_interval_component.Lts as lts
-use Rattle.interval.proofs.amount.amount_at.Reads as amount-at-reads
-use Rattle.interval.proofs.split.unit_at.Reads as unit-at-reads
 
--- src/split.rt:51:11
 amount-at-requires : tie.Need-amount-at-requires
 amount-at-requires c κs = search needs
 
--- src/split.rt:52:26
 enum-known-amount : tie.Need-enum-known-amount
 enum-known-amount c = search needs
 
--- src/split.rt:52:42
 unit-at-requires : tie.Need-unit-at-requires
-unit-at-requires c κs = ?
+unfolding amountIs
+unit-at-requires c κs = rw (c .before .amount .given .1) at (c .before .before .before .amount-at .ensures)
 
--- src/split.rt:53:28
 enum-told : tie.Need-enum-told
 enum-told c = search needs
 
--- src/split.rt:47:1
 returns : tie.Need-returns
 returns c = search needs
 
--- src/split.rt:47:1
 returns-2 : tie.Need-returns-2
-returns-2 c = ?
+unfolding amountIs pieceIs
+returns-2 c =
+    let a = c .before .before in
+    let x = a .before .before .args in
+    no-amount precision (x .text .now) (x .at) (rw (c .enum-told .given .1) at (a .amount-at .ensures))
 
 pub split-interval-component-spec : {M : Type 1} → statement M
 split-interval-component-spec =

@@ -1,52 +1,57 @@
+-- `interval::split::unit_at` meets its contract, by the laws of what follows an amount. Assumes nothing.
 use borrow.Author.Needs.{needs}
+use mathlib.Core.Path.{refl, sym, ap, _∙_}
+use Prim.Native.Nat.{_+_}
+use Rattle.interval.specs.Read.{unitRead, pieceIs}
+use Rattle.interval.proofs.Pieces.{alone, unit-piece, no-unit-here}
 use Rattle.interval.proofs.split.unit_at.Statement.{statement}
 use Rattle.interval.proofs.split.unit_at.Tie as tie
-use Rattle.interval.proofs.split.unit_at.Reads as reads
-use Rattle.interval.proofs.split.unit_at.Lts as lts
-use Rattle.interval.proofs.split.end_at.Reads as end-at-reads
-use Rattle.interval.proofs.unit.letters_at.Reads as letters-at-reads
-use Rattle.interval.proofs.unit.unit_of_key.Reads as unit-of-key-reads
-use Rattle.text.proofs.white.white_at.Reads as white-at-reads
 
--- src/split.rt:35:9
 returns : tie.Need-returns
-returns c = ?
+unfolding pieceIs
+returns c =
+    let x = c .before .before .args in
+    alone (x .text .now) (x .at) (x .amount) (x .end) (c .before .before .pre) (c .if1 .taken)
 
--- src/split.rt:37:22
 white-at-requires : tie.Need-white-at-requires
 white-at-requires c κs = search needs
 
--- src/split.rt:37:16
 add-from : tie.Need-add-from
 add-from c = search needs
 
--- src/split.rt:38:9
 letters-at-requires : tie.Need-letters-at-requires
 letters-at-requires c κs = search needs
 
--- src/split.rt:41:11
 unit-of-key-requires : tie.Need-unit-of-key-requires
 unit-of-key-requires c κs = search needs
 
--- src/split.rt:42:24
 enum-known-unit : tie.Need-enum-known-unit
 enum-known-unit c = search needs
 
--- src/split.rt:42:33
 end-at-requires : tie.Need-end-at-requires
 end-at-requires c κs = search needs
 
--- src/split.rt:43:27
 enum-told : tie.Need-enum-told
 enum-told c = search needs
 
--- src/split.rt:30:1
 returns-2 : tie.Need-returns-2
-returns-2 c = ?
+returns-2 c =
+    let k = c .before .before .before .before in
+    let l = k .before in
+    let w = l .before in
+    let i = w .before in
+    let x = i .before .before .args in
+    rw (c .end-at .ensures) (unit-piece (x .text .now) (x .at) (x .amount) (x .end) (i .before .before .pre) (i .if1 .left) (w .white-at .result) (x .end + w .white-at .result) (w .white-at .ensures .0) refl (l .letters-at .result) (l .letters-at .ensures) (c .before .before .unit .given .0 .0) (sym (ap unitRead (c .before .before .unit .given .1)) ∙ k .unit-of-key .ensures))
 
--- src/split.rt:30:1
 returns-3 : tie.Need-returns-3
-returns-3 c = ?
+unfolding pieceIs
+returns-3 c =
+    let k = c .before .before in
+    let l = k .before in
+    let w = l .before in
+    let i = w .before in
+    let x = i .before .before .args in
+    no-unit-here (x .text .now) (x .at) (x .amount) (x .end) (i .before .before .pre) (i .if1 .left) (w .white-at .result) (x .end + w .white-at .result) (w .white-at .ensures .0) refl (l .letters-at .result) (l .letters-at .ensures) (sym (ap unitRead (c .enum-told .given .1)) ∙ k .unit-of-key .ensures)
 
 pub unit-at-spec : {M : Type 1} → statement M
 unit-at-spec =
