@@ -131,7 +131,7 @@ signed-none : (neg : Bool) → signed neg 0 ≡ pos 0
 signed-none true = refl
 signed-none false = refl
 
-abs-signed : (neg : Bool) (m : ℕ) → natAbs (signed neg m) ≡ m
+pub abs-signed : (neg : Bool) (m : ℕ) → natAbs (signed neg m) ≡ m
 abs-signed true zero = refl
 abs-signed true (suc m) = refl
 abs-signed false m = refl
@@ -274,7 +274,7 @@ module _ (s : List ℕ) (at from : ℕ) (neg : Bool) (N : neg ≡ negative (drop
 
 -- ---- a size with its sign, as the machine has it
 
-module _ (m : ℕ) (h : m < 10 ^ precision) where
+module _ (m : ℕ) (h : m < 2 ^ 63) where
   plain : toZ w64 m ≡ pos m
   plain = toZ-pos w64 {n = m} (omega arith)
 

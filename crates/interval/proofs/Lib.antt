@@ -11,3 +11,4 @@ pub mod Keying
 pub mod Packing
 pub mod Amounts
 pub mod Pieces
+pub mod Adding

@@ -1,9 +1,9 @@
 -- What the answers of `interval` say, and what its functions over a text and a place find there. Assumes nothing.
 use mathlib.Core.Path.{_≡_}
-use mathlib.Core.Bool.{Bool, true, cond}
+use mathlib.Core.Bool.{Bool, true, cond, _&&_}
 use mathlib.Core.List.{List}
 use mathlib.Core.Option.{Option, none, some}
-use Prim.Native.Nat.{ℕ, _+_, _-_, _^_, _≤_, _<_, min}
+use Prim.Native.Nat.{ℕ, _+_, _-_, _*_, _^_, _≤_, _<_, min}
 use lib.Dec.{eqb, leb}
 use lib.IntN.{ℤ, natAbs}
 use lib.ListN.{length, getD, take, drop}
@@ -12,8 +12,8 @@ use Rattle.text.specs.WhiteSpace.{whiteLen}
 use Rattle.number.specs.Widths.{signed}
 use Rattle.interval.specs.Grammar.{precision, wholeFits, Component}
 use Rattle.interval.specs.Division.{negative, signLen, amountLen, Step, bad, stop, go, step}
-use Rattle.interval.specs.Contribution.{Value, amountOf}
-use Rattle.interval.specs.Answer.{orElse, unitFor}
+use Rattle.interval.specs.Contribution.{Value, amountOf, Counts, counts, countsOf}
+use Rattle.interval.specs.Answer.{orElse, unitFor, fits, plus}
 use Rattle.interval.specs.declared.AmountRead.{AmountRead}
 use Rattle.interval.specs.declared.AmountRead.the-variants.{Read as ReadAmount, Bad as NoAmount}
 use Rattle.interval.specs.declared.IntervalAmount.{IntervalAmount}
@@ -21,6 +21,8 @@ use Rattle.interval.specs.declared.IntervalUnit.{IntervalUnit}
 use Rattle.interval.specs.declared.Number.{Number}
 use Rattle.interval.specs.declared.Piece.{Piece}
 use Rattle.interval.specs.declared.Piece.the-variants.{Bad, Last, More}
+use Rattle.interval.specs.declared.Sum.{Sum}
+use Rattle.interval.specs.declared.Sum.the-variants.{Fits, Over}
 use Rattle.interval.specs.declared.UnitRead.{UnitRead}
 use Rattle.interval.specs.declared.UnitRead.the-variants.{Unit as UnitOf, None as NoUnit}
 
@@ -99,3 +101,37 @@ unfoldable pub pieceIs : List ℕ → ℕ → Piece → Type 0
 pieceIs s at Bad = step precision (drop at s) ≡ bad
 pieceIs s at (Last a w) = LastIs s at a (unitRead w)
 pieceIs s at (More a u x) = MoreIs s at a u x
+
+-- ---- counts
+
+-- the counts that fit, or none
+abbrev pub sumOf : Sum → Option Counts
+sumOf (Fits i) = some (countsOf i)
+sumOf Over = none
+
+-- most is the largest number that times k fits 64 signed bits, and no multiple of k is 2^63
+pub record Most (k most : ℕ) : Type 0 where
+  pub fits : most * k < 2 ^ 63
+  pub largest : 2 ^ 63 < (most + 1) * k
+  pub most-fits : most < 2 ^ 63
+  pub factor-fits : k < 2 ^ 63
+
+-- three counts, if there are three
+unfoldable pub together : Option ℤ → Option ℤ → Option ℤ → Option Counts
+together none d n = none
+together (some m) none n = none
+together (some m) (some d) none = none
+together (some m) (some d) (some n) = some (counts m d n)
+
+-- counts, where they fit
+unfoldable pub fitting : Counts → Option Counts
+fitting c = cond (fits c) (some c) none
+
+-- the totals c with a contribution k, where it fits and they do
+unfoldable pub added : Counts → Counts → Option Counts
+added c k = cond (fits k && fits (plus c k)) (some (plus c k)) none
+
+-- the same from totals that may not have fitted
+unfoldable pub onAdded : Option Counts → Counts → Option Counts
+onAdded none k = none
+onAdded (some c) k = added c k

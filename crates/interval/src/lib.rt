@@ -1,5 +1,6 @@
 // Intervals: amounts with their units, in the text form of PostgreSQL's interval input.
 mod amount;
+mod contributions;
 mod split;
 mod unit;
 

@@ -47,14 +47,14 @@ cast-size c =
     let n = c .before .before .before in
     let x = n .before .before .args in
     let p = n .before .before .pre in
-    size-cast (n .number-at .result .value * c .scale .result) (size-below (x .text .now) (x .at) (x .at + signLen (x .neg)) (x .neg) (p .sign-is) refl (p .fitting) (x .from) (omega (arith, p .place)) (p .point) (n .number-at .result) (n .number-at .ensures) (c .before .if2 .left) (c .scale .result) (c .scale .ensures))
+    size-cast (n .number-at .result .value * c .scale .result) (omega (arith, (size-below (x .text .now) (x .at) (x .at + signLen (x .neg)) (x .neg) (p .sign-is) refl (p .fitting) (x .from) (omega (arith, p .place)) (p .point) (n .number-at .result) (n .number-at .ensures) (c .before .if2 .left) (c .scale .result) (c .scale .ensures))))
 
 sub-t14 : tie.Need-sub-t14
 sub-t14 c =
     let n = c .before .before .before .before in
     let x = n .before .before .args in
     let p = n .before .before .pre in
-    size-flips (n .number-at .result .value * c .before .scale .result) (size-below (x .text .now) (x .at) (x .at + signLen (x .neg)) (x .neg) (p .sign-is) refl (p .fitting) (x .from) (omega (arith, p .place)) (p .point) (n .number-at .result) (n .number-at .ensures) (c .before .before .if2 .left) (c .before .scale .result) (c .before .scale .ensures))
+    size-flips (n .number-at .result .value * c .before .scale .result) (omega (arith, (size-below (x .text .now) (x .at) (x .at + signLen (x .neg)) (x .neg) (p .sign-is) refl (p .fitting) (x .from) (omega (arith, p .place)) (p .point) (n .number-at .result) (n .number-at .ensures) (c .before .before .if2 .left) (c .before .scale .result) (c .before .scale .ensures))))
 
 returns-3 : tie.Need-returns-3
 unfolding amountIs
@@ -63,7 +63,7 @@ returns-3 c =
     let x = n .before .before .args in
     let p = n .before .before .pre in
     let b = size-below (x .text .now) (x .at) (x .at + signLen (x .neg)) (x .neg) (p .sign-is) refl (p .fitting) (x .from) (omega (arith, p .place)) (p .point) (n .number-at .result) (n .number-at .ensures) (c .before .before .if2 .left) (c .before .scale .result) (c .before .scale .ensures) in
-    pointed (x .text .now) (x .at) (x .at + signLen (x .neg)) (x .neg) (p .sign-is) refl (p .fitting) (x .from) (omega (arith, p .place)) (p .point) (n .number-at .result) (n .number-at .ensures) (c .before .before .if2 .left) (c .before .scale .result) (c .before .scale .ensures) (c .before .before .before .if1 .left) (toZ-ofZ (n .before .before .fits .integer) ∙ p .integer-is) (rw (c .if3 .taken) (size-minus (n .number-at .result .value * c .before .scale .result) b))
+    pointed (x .text .now) (x .at) (x .at + signLen (x .neg)) (x .neg) (p .sign-is) refl (p .fitting) (x .from) (omega (arith, p .place)) (p .point) (n .number-at .result) (n .number-at .ensures) (c .before .before .if2 .left) (c .before .scale .result) (c .before .scale .ensures) (c .before .before .before .if1 .left) (toZ-ofZ (n .before .before .fits .integer) ∙ p .integer-is) (rw (c .if3 .taken) (size-minus (n .number-at .result .value * c .before .scale .result) (omega (arith, b))))
 
 returns-4 : tie.Need-returns-4
 unfolding amountIs
@@ -72,7 +72,7 @@ returns-4 c =
     let x = n .before .before .args in
     let p = n .before .before .pre in
     let b = size-below (x .text .now) (x .at) (x .at + signLen (x .neg)) (x .neg) (p .sign-is) refl (p .fitting) (x .from) (omega (arith, p .place)) (p .point) (n .number-at .result) (n .number-at .ensures) (c .before .before .if2 .left) (c .before .scale .result) (c .before .scale .ensures) in
-    pointed (x .text .now) (x .at) (x .at + signLen (x .neg)) (x .neg) (p .sign-is) refl (p .fitting) (x .from) (omega (arith, p .place)) (p .point) (n .number-at .result) (n .number-at .ensures) (c .before .before .if2 .left) (c .before .scale .result) (c .before .scale .ensures) (c .before .before .before .if1 .left) (toZ-ofZ (n .before .before .fits .integer) ∙ p .integer-is) (rw (c .if3 .left) (size-plus (n .number-at .result .value * c .before .scale .result) b))
+    pointed (x .text .now) (x .at) (x .at + signLen (x .neg)) (x .neg) (p .sign-is) refl (p .fitting) (x .from) (omega (arith, p .place)) (p .point) (n .number-at .result) (n .number-at .ensures) (c .before .before .if2 .left) (c .before .scale .result) (c .before .scale .ensures) (c .before .before .before .if1 .left) (toZ-ofZ (n .before .before .fits .integer) ∙ p .integer-is) (rw (c .if3 .left) (size-plus (n .number-at .result .value * c .before .scale .result) (omega (arith, b))))
 
 pub fraction-at-spec : {M : Type 1} → statement M
 fraction-at-spec =
