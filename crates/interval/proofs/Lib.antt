@@ -12,3 +12,4 @@ pub mod Packing
 pub mod Amounts
 pub mod Pieces
 pub mod Adding
+pub mod Folding

@@ -3,21 +3,29 @@ use mathlib.Core.Path.{_≡_}
 use mathlib.Core.Bool.{Bool, true, cond, _&&_}
 use mathlib.Core.List.{List}
 use mathlib.Core.Option.{Option, none, some}
-use Prim.Native.Nat.{ℕ, _+_, _-_, _*_, _^_, _≤_, _<_, min}
+use Prim.Native.Nat.{ℕ, _+_, _-_, _*_, _%_, _^_, _≤_, _<_, min}
 use lib.Dec.{eqb, leb}
-use lib.IntN.{ℤ, natAbs}
+use lib.IntN.{ℤ, pos, natAbs, _+ℤ_, _*ℤ_}
 use lib.ListN.{length, getD, take, drop}
+use lib.Signed.{quotZ}
 use Rattle.text.specs.Digits.{value, run}
 use Rattle.text.specs.WhiteSpace.{whiteLen}
-use Rattle.number.specs.Widths.{signed}
+use Rattle.number.specs.Widths.{inSigned, signed, fit}
+use Rattle.refusal.specs.Outcome.{Outcome, accepted, because}
 use Rattle.interval.specs.Grammar.{precision, wholeFits, Component}
 use Rattle.interval.specs.Division.{negative, signLen, amountLen, Step, bad, stop, go, step}
 use Rattle.interval.specs.Contribution.{Value, amountOf, Counts, counts, countsOf}
-use Rattle.interval.specs.Answer.{orElse, unitFor, fits, plus}
+use Rattle.interval.specs.Answer.{orElse, unitFor, fits, plus, DayTime, dayTimeOf}
 use Rattle.interval.specs.declared.AmountRead.{AmountRead}
 use Rattle.interval.specs.declared.AmountRead.the-variants.{Read as ReadAmount, Bad as NoAmount}
+use Rattle.interval.specs.declared.DayTimeRead.{DayTimeRead}
+use Rattle.interval.specs.declared.DayTimeRead.the-variants.{Value as DayTimeValue, Refused as DayTimeRefused}
 use Rattle.interval.specs.declared.IntervalAmount.{IntervalAmount}
+use Rattle.interval.specs.declared.IntervalRead.{IntervalRead}
+use Rattle.interval.specs.declared.IntervalRead.the-variants.{Value as IntervalValue, Refused as IntervalRefused}
 use Rattle.interval.specs.declared.IntervalUnit.{IntervalUnit}
+use Rattle.interval.specs.declared.MaybeDayTime.{MaybeDayTime}
+use Rattle.interval.specs.declared.MaybeDayTime.the-variants.{Some as SomeDayTime, None as NoDayTime}
 use Rattle.interval.specs.declared.Number.{Number}
 use Rattle.interval.specs.declared.Piece.{Piece}
 use Rattle.interval.specs.declared.Piece.the-variants.{Bad, Last, More}
@@ -135,3 +143,34 @@ added c k = cond (fits k && fits (plus c k)) (some (plus c k)) none
 unfoldable pub onAdded : Option Counts → Counts → Option Counts
 onAdded none k = none
 onAdded (some c) k = added c k
+
+-- ---- answers
+
+-- the counts of an interval, or a refusal
+abbrev pub intervalOutcome : IntervalRead → Outcome Counts
+intervalOutcome (IntervalValue i) = accepted (countsOf i)
+intervalOutcome (IntervalRefused why) = because why
+
+-- days and milliseconds, or a refusal
+abbrev pub dayTimeOutcome : DayTimeRead → Outcome DayTime
+dayTimeOutcome (DayTimeValue v) = accepted (dayTimeOf (v .days .0) (v .millis .0))
+dayTimeOutcome (DayTimeRefused why) = because why
+
+-- months times 30 plus days, if each step fits 32 bits
+unfoldable pub inDays : ℤ → ℤ → Option ℤ
+inDays m d = cond (inSigned 31 (m *ℤ pos 30)) (fit 31 (m *ℤ pos 30 +ℤ d)) none
+
+-- nanoseconds over 1,000,000, if that divides them and the quotient fits 32 bits
+unfoldable pub inMillis : ℤ → Option ℤ
+inMillis n = cond (eqb (natAbs n % 1_000_000) 0) (fit 31 (quotZ n (pos 1_000_000))) none
+
+-- days and milliseconds, or none
+abbrev pub maybeDayTime : MaybeDayTime → Option DayTime
+maybeDayTime (SomeDayTime v) = some (dayTimeOf (v .days .0) (v .millis .0))
+maybeDayTime NoDayTime = none
+
+-- both, if there are both
+unfoldable pub dayTimeIf : Option ℤ → Option ℤ → Option DayTime
+dayTimeIf none m = none
+dayTimeIf (some d) none = none
+dayTimeIf (some d) (some m) = some (dayTimeOf d m)

@@ -1,6 +1,16 @@
 // Intervals: amounts with their units, in the text form of PostgreSQL's interval input.
+use number::Int32;
+use refusal::Read32;
+use refusal::Refusal;
+ghost use mathlib.Core.Path.{_≡_};
+ghost use Rattle.refusal.specs.Outcome.{outcome32};
+ghost use Rattle.interval.specs.Grammar.{precision};
+ghost use Rattle.interval.specs.Answer.{monthDayNano, plainMonthDayNano, yearMonth, dayTime};
+ghost use Rattle.interval.specs.Read.{intervalOutcome, dayTimeOutcome};
 mod amount;
+mod components;
 mod contributions;
+mod narrow;
 mod split;
 mod unit;
 
@@ -84,4 +94,82 @@ pub enum Piece {
 pub enum Sum {
     Fits(Interval),
     Over,
+}
+
+// A count of milliseconds.
+pub struct Millis(pub i32);
+
+// Days and milliseconds.
+pub struct IntervalDayTime {
+    pub days: Days,
+    pub millis: Millis,
+}
+
+// Days and milliseconds, or none.
+pub enum MaybeDayTime {
+    Some(IntervalDayTime),
+    None,
+}
+
+// A reader's answer of months, days and nanoseconds.
+pub enum IntervalRead {
+    Value(Interval),
+    Refused(Refusal),
+}
+
+// A reader's answer of days and milliseconds.
+pub enum DayTimeRead {
+    Value(IntervalDayTime),
+    Refused(Refusal),
+}
+
+// The unit of a last component that has none.
+pub struct IntervalParseConfig {
+    pub default_unit: IntervalUnit,
+}
+
+impl IntervalParseConfig {
+    pub fn new(default_unit: IntervalUnit) -> Self
+        ensures { λ r. ⌜ r .«default_unit» ≡ «default_unit» ⌝ }
+    {
+        Self { default_unit }
+    }
+}
+
+pub fn parse_interval_year_month(value: &[u8]) -> Read32
+    ensures { λ r. ⌜ outcome32 r ≡ yearMonth precision (now (value .entry)) ⌝ }
+{
+    let config = IntervalParseConfig::new(IntervalUnit::Year);
+    match Interval::parse(value, config) {
+        IntervalRead::Value(interval) => match interval.to_year_months() {
+            Int32::Some(months) => Read32::Value(months),
+            Int32::None => Read32::Refused(Refusal::Narrowed),
+        },
+        IntervalRead::Refused(why) => Read32::Refused(why),
+    }
+}
+
+pub fn parse_interval_day_time(value: &[u8]) -> DayTimeRead
+    ensures { λ r. ⌜ dayTimeOutcome r ≡ dayTime precision (now (value .entry)) ⌝ }
+{
+    let config = IntervalParseConfig::new(IntervalUnit::Day);
+    match Interval::parse(value, config) {
+        IntervalRead::Value(interval) => match interval.to_day_time() {
+            MaybeDayTime::Some(both) => DayTimeRead::Value(both),
+            MaybeDayTime::None => DayTimeRead::Refused(Refusal::Narrowed),
+        },
+        IntervalRead::Refused(why) => DayTimeRead::Refused(why),
+    }
+}
+
+pub fn parse_interval_month_day_nano_config(value: &[u8], config: IntervalParseConfig) -> IntervalRead
+    ensures { λ r. ⌜ intervalOutcome r ≡ monthDayNano precision (config .«default_unit») (now (value .entry)) ⌝ }
+{
+    Interval::parse(value, config)
+}
+
+pub fn parse_interval_month_day_nano(value: &[u8]) -> IntervalRead
+    ensures { λ r. ⌜ intervalOutcome r ≡ plainMonthDayNano precision (now (value .entry)) ⌝ }
+{
+    parse_interval_month_day_nano_config(value, IntervalParseConfig::new(IntervalUnit::Month))
 }
