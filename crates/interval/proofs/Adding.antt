@@ -77,7 +77,7 @@ size-of : (z : ℤ) {m : ℕ} → P z ≤ N z + m → N z ≤ P z + m → natAbs
 size-of (pos n) h l = omega arith
 size-of (negsuc n) h l = omega arith
 
-small-fits : (z : ℤ) → natAbs z < 2 ^ 63 → SFits w64 z
+pub small-fits : (z : ℤ) → natAbs z < 2 ^ 63 → SFits w64 z
 small-fits z h = fits-of w64 z (omega (arith, size-pn z))
 
 module _ (f : ℤ) (b : natAbs f < 10 ^ precision) (a c : ℕ) (h : a ≤ 6048) where

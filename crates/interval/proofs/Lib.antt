@@ -13,3 +13,4 @@ pub mod Amounts
 pub mod Pieces
 pub mod Adding
 pub mod Folding
+pub mod Narrower

@@ -1,51 +1,56 @@
+-- `interval::parse_interval_day_time` meets its contract: the interval of the text, narrowed. Assumes nothing.
 use borrow.Author.Needs.{needs}
+use mathlib.Core.Path.{sym, ap, _∙_}
+use Rattle.interval.specs.Answer.{toDayTime, dayTime}
+use Rattle.interval.specs.Read.{intervalOutcome, maybeDayTime}
+use Rattle.interval.proofs.Narrower.{narrows-to, narrows-none, narrows-refused}
 use Rattle.interval.proofs.parse_interval_day_time.Statement.{statement}
 use Rattle.interval.proofs.parse_interval_day_time.Tie as tie
-use Rattle.interval.proofs.parse_interval_day_time.Reads as reads
-use Rattle.interval.proofs.parse_interval_day_time.Lts as lts
-use Rattle.interval.proofs.Interval.parse.Reads as parse-reads
-use Rattle.interval.proofs.Interval.to_day_time.Reads as to-day-time-reads
-use Rattle.interval.proofs.IntervalParseConfig.new.Reads as new-reads
 
--- src/lib.rt:155:9
 new-requires : tie.Need-new-requires
 new-requires c κs = search needs
 
--- src/lib.rt:156:11
 parse-requires : tie.Need-parse-requires
 parse-requires c κs = search needs
 
--- src/lib.rt:157:29
 enum-known-interval : tie.Need-enum-known-interval
 enum-known-interval c = search needs
 
--- src/lib.rt:157:48
 to-day-time-requires : tie.Need-to-day-time-requires
 to-day-time-requires c κs = search needs
 
--- src/lib.rt:158:32
 enum-known-both : tie.Need-enum-known-both
 enum-known-both c = search needs
 
--- src/lib.rt:159:56
 enum-told : tie.Need-enum-told
 enum-told c = search needs
 
--- src/lib.rt:161:31
 enum-known-why : tie.Need-enum-known-why
 enum-known-why c = search needs
 
--- src/lib.rt:152:1
 returns : tie.Need-returns
-returns c = ?
+unfolding dayTime
+returns c =
+    let y = c .before .before .before in
+    let i = y .before .before in
+    let p = i .before .before in
+    let o = sym (rw (p .before .new .ensures) at (p .parse .ensures)) ∙ ap intervalOutcome (i .interval .given .1) in
+    narrows-to toDayTime o (sym (ap maybeDayTime (c .before .both .given .1)) ∙ y .to-day-time .ensures)
 
--- src/lib.rt:152:1
 returns-2 : tie.Need-returns-2
-returns-2 c = ?
+unfolding dayTime
+returns-2 c =
+    let y = c .before .before in
+    let i = y .before .before in
+    let p = i .before .before in
+    let o = sym (rw (p .before .new .ensures) at (p .parse .ensures)) ∙ ap intervalOutcome (i .interval .given .1) in
+    narrows-none toDayTime o (sym (ap maybeDayTime (c .enum-told .given .1)) ∙ y .to-day-time .ensures)
 
--- src/lib.rt:152:1
 returns-3 : tie.Need-returns-3
-returns-3 c = ?
+unfolding dayTime
+returns-3 c =
+    let p = c .before .before .before in
+    narrows-refused toDayTime (sym (rw (p .before .new .ensures) at (p .parse .ensures)) ∙ ap intervalOutcome (c .before .why .given .1))
 
 pub parse-interval-day-time-spec : {M : Type 1} → statement M
 parse-interval-day-time-spec =

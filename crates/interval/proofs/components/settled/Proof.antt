@@ -1,28 +1,25 @@
+-- `interval::components::settled` meets its contract, case by case. Assumes nothing.
 use borrow.Author.Needs.{needs}
+use Rattle.interval.specs.Answer.{onTotals}
 use Rattle.interval.proofs.components.settled.Statement.{statement}
 use Rattle.interval.proofs.components.settled.Tie as tie
-use Rattle.interval.proofs.components.settled.Reads as reads
-use Rattle.interval.proofs.components.settled.Lts as lts
 
--- src/components.rt:38:9
 returns : tie.Need-returns
-returns c = ?
+returns c = rw (c .if1 .taken)
 
--- src/components.rt:41:19
 enum-known-total : tie.Need-enum-known-total
 enum-known-total c = search needs
 
--- src/components.rt:42:44
 enum-told : tie.Need-enum-told
 enum-told c = search needs
 
--- src/components.rt:34:1
 returns-2 : tie.Need-returns-2
-returns-2 c = ?
+unfolding onTotals
+returns-2 c = rw (c .before .before .before .if1 .left, c .before .total .given .1)
 
--- src/components.rt:34:1
 returns-3 : tie.Need-returns-3
-returns-3 c = ?
+unfolding onTotals
+returns-3 c = rw (c .before .before .if1 .left, c .enum-told .given .1)
 
 pub settled-spec : {M : Type 1} → statement M
 settled-spec = tie.close (tie.spec returns enum-known-total enum-told returns-2 returns-3)
