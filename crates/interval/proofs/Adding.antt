@@ -4,7 +4,7 @@ use mathlib.Core.Path.{_≡_, refl, sym, ap, _∙_}
 use mathlib.Core.Bool.{Bool, true, false, cond, _&&_}
 use mathlib.Core.Option.{Option, none, some, Option·none-ne-some}
 use Prim.Native.Nat.{ℕ, zero, suc, _+_, _-_, _*_, _/_, _^_, _≤_, _<_}
-use native.Mathlib.Nat.{mul-le-mul, mul-le-mul-right, div-lt-iff-lt-mul, div-le-self, zero-div, zero-mul, mul-one}
+use native.Mathlib.Nat.{mul-le-mul, mul-le-mul-left, mul-le-mul-right, div-lt-iff-lt-mul, div-le-self, zero-div, zero-mul, mul-one}
 use native.Mathlib.Omega.{arith}
 use lib.Pow.{pow-pos}
 use lib.IntN.{ℤ, pos, negsuc, negℤ, natAbs, _+ℤ_, _-ℤ_, _*ℤ_}
@@ -22,7 +22,7 @@ use Rattle.interval.specs.Contribution.{Value, Counts, counts, times, wh
 use Rattle.interval.specs.Answer.{fits, plus}
 use Rattle.interval.specs.Read.{amountFrom, Most, together, fitting, added, onAdded}
 use Rattle.interval.specs.declared.IntervalAmount.{IntervalAmount}
-use Rattle.interval.proofs.Cuts.{times-cut, cut-factor}
+use Rattle.interval.proofs.Cuts.{ten-pos, times-cut, cut-ratio}
 use Rattle.interval.proofs.Amounts.{abs-signed, size-flips, size-minus}
 
 -- ---- a sign goes through products, quotients and sums
@@ -47,9 +47,6 @@ add-none z = eq-of (z +ℤ pos 0) z (omega (arith, add-pn z (pos 0)))
 
 none-add : (z : ℤ) → pos 0 +ℤ z ≡ z
 none-add z = eq-of (pos 0 +ℤ z) z (omega (arith, add-pn (pos 0) z))
-
-mul-once : (z : ℤ) → z *ℤ pos 1 ≡ z
-mul-once z = eq-of (z *ℤ pos 1) z (omega (arith, mul-P z 1, mul-N z 1))
 
 -- ---- a part of a fraction: its factor is a, its divisor is c
 
@@ -83,36 +80,54 @@ small-fits z h = fits-of w64 z (omega (arith, size-pn z))
 module _ (f : ℤ) (b : natAbs f < 10 ^ precision) (a c : ℕ) (h : a ≤ 6048) where
   product-small : natAbs (f *ℤ pos a) < 2 ^ 63
   product-small =
-      let m : natAbs f * a ≤ natAbs f * 6048 = mul-le-mul {n₁ = natAbs f} {m₁ = a} {n₂ = natAbs f} {m₂ = 6048} (omega arith) h in
+      let m : natAbs f * a ≤ natAbs f * 6048 = mul-le-mul-left (natAbs f) h in
       omega (arith, abs-mul f a)
 
-  quot-small : natAbs (quotZ (f *ℤ pos a) (pos c)) < 2 ^ 63
-  quot-small = omega (arith, product-small, abs-quot (f *ℤ pos a) c, div-le-self (natAbs (f *ℤ pos a)) c)
+  product-fits : SFits w64 (f *ℤ pos a)
+  product-fits = small-fits (f *ℤ pos a) product-small
+
+  quot-fits : SFits w64 (quotZ (f *ℤ pos a) (pos c))
+  quot-fits = small-fits (quotZ (f *ℤ pos a) (pos c)) (omega (arith, product-small, abs-quot (f *ℤ pos a) c, div-le-self (natAbs (f *ℤ pos a)) c))
 
   f-fits : SFits w64 f
   f-fits = small-fits f (omega arith)
 
-  pub part-mul : SFits w64 (rd w64 f *ℤ pos a)
-  part-mul = rw (toZ-ofZ f-fits) (small-fits (f *ℤ pos a) product-small)
+  factor : toZ w64 a ≡ pos a
+  factor = toZ-pos w64 {n = a} (omega arith)
 
-  pub part-div : SFits w64 (quotZ (rd w64 (rd w64 f *ℤ pos a)) (pos c))
-  part-div = rw (toZ-ofZ f-fits, toZ-ofZ (small-fits (f *ℤ pos a) product-small)) (small-fits (quotZ (f *ℤ pos a) (pos c)) quot-small)
+  pub cut-mul : SFits w64 (rd w64 f *ℤ toZ w64 a)
+  cut-mul = rw (toZ-ofZ f-fits, factor) product-fits
 
-  -- the part, as the machine has it
-  pub part-is : rd w64 (quotZ (rd w64 (rd w64 f *ℤ pos a)) (pos c)) ≡ quotZ (f *ℤ pos a) (pos c)
-  part-is = rw (toZ-ofZ f-fits, toZ-ofZ (small-fits (f *ℤ pos a) product-small), toZ-ofZ (small-fits (quotZ (f *ℤ pos a) (pos c)) quot-small))
+  module _ (l : c ≤ 10 ^ precision) where
+    divisor : toZ w64 c ≡ pos c
+    divisor = toZ-pos w64 {n = c} (omega arith)
 
-  pub part-most : 0 < c → 10 ^ precision * a ≤ 1200 * c → natAbs (rd w64 (quotZ (rd w64 (rd w64 f *ℤ pos a)) (pos c))) ≤ 1200
-  part-most p q =
-      let m : natAbs f * a ≤ 10 ^ precision * a = mul-le-mul-right a (omega arith) in
-      let d : natAbs f * a / c < 1201 = div-lt-iff-lt-mul {k = c} {x = natAbs f * a} {y = 1201} p .1 (omega arith) in
-      rw part-is (omega (arith, abs-quot (f *ℤ pos a) c, ap (λ (x : ℕ). x / c) (abs-mul f a)))
+    pub cut-div : SFits w64 (quotZ (rd w64 (rd w64 f *ℤ toZ w64 a)) (toZ w64 c))
+    cut-div = rw (toZ-ofZ f-fits, factor, divisor, toZ-ofZ product-fits) quot-fits
 
-pub plain-div : (f : ℤ) → natAbs f < 10 ^ precision → (c : ℕ) → SFits w64 (quotZ (rd w64 f) (pos c))
-plain-div f b c =
-    rw (toZ-ofZ (small-fits f (omega arith))) (small-fits (quotZ f (pos c)) (omega (arith, abs-quot f c, div-le-self (natAbs f) c)))
+    pub cut-is : rd w64 (quotZ (rd w64 (rd w64 f *ℤ toZ w64 a)) (toZ w64 c)) ≡ quotZ (f *ℤ pos a) (pos c)
+    cut-is = rw (toZ-ofZ f-fits, factor, divisor, toZ-ofZ product-fits, toZ-ofZ quot-fits)
 
--- ---- the value v of an amount; a unit's factor k is a times g, and ten to the limit is c times g
+  -- r is the part
+  module _ {r : ℤ} (R : r ≡ quotZ (rd w64 f *ℤ pos a) (pos c)) where
+    part-exact : r ≡ quotZ (f *ℤ pos a) (pos c)
+    part-exact = R ∙ rw (toZ-ofZ f-fits)
+
+    pub part-fits : SFits w64 r
+    part-fits = rw part-exact quot-fits
+
+    pub part-reads : rd w64 r ≡ quotZ (f *ℤ pos a) (pos c)
+    part-reads = toZ-ofZ part-fits ∙ part-exact
+
+    -- where a over c is k over ten to the limit, it is below k
+    pub part-most : {k : ℕ} → 0 < c → k * c ≡ a * 10 ^ precision → k ≤ 1200 → natAbs (rd w64 r) ≤ 1200
+    part-most {k} p q u =
+        let m : natAbs f * a ≤ 10 ^ precision * a = mul-le-mul-right a (omega arith) in
+        let n : k * c ≤ 1200 * c = mul-le-mul-right c u in
+        let d : natAbs f * a / c < 1201 = div-lt-iff-lt-mul {k = c} {x = natAbs f * a} {y = 1201} p .1 (omega arith) in
+        rw part-reads (omega (arith, abs-quot (f *ℤ pos a) c, ap (λ (x : ℕ). x / c) (abs-mul f a)))
+
+-- ---- the value v of an amount; a over c is a unit's factor k over ten to the limit
 
 module _ (v : Value) where
   abbrev whole : ℤ
@@ -124,81 +139,62 @@ module _ (v : Value) where
   part-signed : (a c : ℕ) → quotZ (frac *ℤ pos a) (pos c) ≡ signed (v .neg) (v .frac * a / c)
   part-signed a c = rw (mul-signed (v .neg) (v .frac) a) (quot-signed (v .neg) (v .frac * a) c)
 
-  module _ (a c g : ℕ) (p : 0 < g) (q : 10 ^ precision ≡ c * g) where
-    cut-here : v .frac * (a * g) / 10 ^ precision ≡ v .frac * a / c
-    cut-here = rw q (cut-factor (v .frac) a g c p)
+  module _ (k a c : ℕ) (p : 0 < c) (q : k * c ≡ a * 10 ^ precision) where
+    cut-here : v .frac * k / 10 ^ precision ≡ v .frac * a / c
+    cut-here = cut-ratio (v .frac) k (10 ^ precision) a c (ten-pos precision) p q
 
-    pub part-times : quotZ (frac *ℤ pos a) (pos c) ≡ fracTimes precision (a * g) v
+    part-times : quotZ (frac *ℤ pos a) (pos c) ≡ fracTimes precision k v
     unfolding fracTimes
     part-times = rw cut-here (part-signed a c)
 
-    pub sum-times : whole *ℤ pos (a * g) +ℤ quotZ (frac *ℤ pos a) (pos c) ≡ times precision (a * g) v
+    sum-times : whole *ℤ pos k +ℤ quotZ (frac *ℤ pos a) (pos c) ≡ times precision k v
     sum-times =
-        rw (times-cut precision (a * g) v, cut-here, part-signed a c, mul-signed (v .neg) (v .integer) (a * g))
-        (add-signed (v .neg) (v .integer * (a * g)) (v .frac * a / c))
+        rw (times-cut precision k v, cut-here, part-signed a c, mul-signed (v .neg) (v .integer) k)
+        (add-signed (v .neg) (v .integer * k) (v .frac * a / c))
 
-  pub whole-times : (k : ℕ) → whole *ℤ pos k +ℤ pos 0 ≡ wholeTimes k v
+  whole-times : (k : ℕ) → whole *ℤ pos k +ℤ pos 0 ≡ wholeTimes k v
   unfolding wholeTimes
   whole-times k = rw (add-none (whole *ℤ pos k)) (mul-signed (v .neg) (v .integer) k)
 
   -- a nanosecond's fraction comes to nothing
-  pub nanos-alone : v .frac < 10 ^ precision → whole ≡ times precision 1 v
+  nanos-alone : v .frac < 10 ^ precision → whole ≡ times precision 1 v
   nanos-alone h =
       let e : v .integer * 1 + v .frac * 1 / 10 ^ precision ≡ v .integer = omega arith in
       rw (times-cut precision 1 v, e)
 
--- the same of an amount that holds v, as the machine has its parts
+-- the same of an amount x that holds v, as the machine has its parts
 module _ (x : IntervalAmount) (v : Value) (E : x ≡ amountFrom v) (F : SFits w64 (x .integer)) (b : natAbs (x .frac) < 10 ^ precision) where
-  abbrev part : ℕ → ℕ → ℤ
-  part a c = rd w64 (quotZ (rd w64 (rd w64 (x .frac) *ℤ pos a)) (pos c))
-
   pub whole-is : rd w64 (x .integer) ≡ signed (v .neg) (v .integer)
   whole-is = toZ-ofZ F ∙ ap (λ (y : IntervalAmount). y .integer) E
-
-  module _ (a c g : ℕ) (h : a ≤ 6048) (p : 0 < g) (q : 10 ^ precision ≡ c * g) where
-    part-of : part a c ≡ quotZ (signed (v .neg) (v .frac) *ℤ pos a) (pos c)
-    part-of = part-is (x .frac) b a c h ∙ ap (λ (y : IntervalAmount). quotZ (y .frac *ℤ pos a) (pos c)) E
-
-    pub cut-times : rd w64 (x .integer) *ℤ pos (a * g) +ℤ part a c ≡ times precision (a * g) v
-    cut-times = rw (whole-is, part-of) (sum-times v a c g p q)
-
-    pub cut-part : part a c ≡ fracTimes precision (a * g) v
-    cut-part = part-of ∙ part-times v a c g p q
-
-    -- its size, with the sign of the amount
-    pub cut-signed : part a c ≡ signed (v .neg) (v .frac * a / c)
-    cut-signed = part-of ∙ part-signed v a c
-
-    -- as a count by itself
-    pub cut-days : pos 0 *ℤ pos 1 +ℤ part a c ≡ fracTimes precision (a * g) v
-    cut-days = none-add (part a c) ∙ cut-part
-
-    pub cut-fits : some (part a c) ≡ fit 63 (fracTimes precision (a * g) v)
-    cut-fits = let d = part-div (x .frac) b a c h in fit-yes d ∙ ap (fit 63) (sym (toZ-ofZ d) ∙ cut-part)
 
   pub cut-whole : (k : ℕ) → rd w64 (x .integer) *ℤ pos k +ℤ pos 0 ≡ wholeTimes k v
   cut-whole k = rw whole-is (whole-times v k)
 
-  -- a factor of 1 is left out
-  module _ (c g : ℕ) (p : 0 < g) (q : 10 ^ precision ≡ c * g) where
-    plain-part : rd w64 (quotZ (rd w64 (x .frac)) (pos c)) ≡ part 1 c
-    plain-part =
-        let f = small-fits (x .frac) (omega arith) in
-        rw (toZ-ofZ f, mul-once (x .frac), toZ-ofZ f)
-
-    pub plain-times : rd w64 (x .integer) *ℤ pos g +ℤ rd w64 (quotZ (rd w64 (x .frac)) (pos c)) ≡ times precision g v
-    plain-times = let e : 1 * g ≡ g = omega arith in rw plain-part (rw e at (cut-times 1 c g (omega arith) p q))
-
-    pub plain-signed : rd w64 (quotZ (rd w64 (x .frac)) (pos c)) ≡ signed (v .neg) (v .frac * 1 / c)
-    plain-signed = plain-part ∙ cut-signed 1 c g (omega arith) p q
-
-  cut-nanos : rd w64 (x .integer) ≡ times precision 1 v
-  cut-nanos =
-      whole-is ∙
-      nanos-alone v (omega (arith, ap (λ (y : IntervalAmount). natAbs (y .frac)) E, abs-signed (v .neg) (v .frac)))
-
   pub whole-fits : some (rd w64 (x .integer)) ≡ fit 63 (times precision 1 v)
-  whole-fits = fit-yes F ∙ ap (fit 63) (sym (toZ-ofZ F) ∙ cut-nanos)
+  whole-fits =
+      fit-yes F ∙
+      ap (fit 63) (ap (λ (y : IntervalAmount). y .integer) E ∙ nanos-alone v (omega (arith, ap (λ (y : IntervalAmount). natAbs (y .frac)) E, abs-signed (v .neg) (v .frac))))
+
+  -- r is its part
+  module _ (k a c : ℕ) (h : a ≤ 6048) (p : 0 < c) (q : k * c ≡ a * 10 ^ precision) {r : ℤ} (R : r ≡ quotZ (rd w64 (x .frac) *ℤ pos a) (pos c)) where
+    part-of : rd w64 r ≡ quotZ (signed (v .neg) (v .frac) *ℤ pos a) (pos c)
+    part-of = part-reads (x .frac) b a c h R ∙ ap (λ (y : IntervalAmount). quotZ (y .frac *ℤ pos a) (pos c)) E
+
+    pub cut-times : rd w64 (x .integer) *ℤ pos k +ℤ rd w64 r ≡ times precision k v
+    cut-times = rw (whole-is, part-of) (sum-times v k a c p q)
+
+    -- its size, with the sign of the amount
+    pub cut-signed : rd w64 r ≡ signed (v .neg) (v .frac * a / c)
+    cut-signed = part-of ∙ part-signed v a c
+
+    -- it is a count by itself
+    pub cut-days : pos 0 *ℤ pos 1 +ℤ rd w64 r ≡ fracTimes precision k v
+    cut-days = none-add (rd w64 r) ∙ part-of ∙ part-times v k a c p q
+
+    pub cut-fits : some (rd w64 r) ≡ fit 63 (fracTimes precision k v)
+    cut-fits =
+        let f = part-fits (x .frac) b a c h R in
+        fit-yes f ∙ ap (fit 63) (sym (toZ-ofZ f) ∙ part-of ∙ part-times v k a c p q)
 
 -- ---- three counts
 
@@ -262,23 +258,23 @@ module _ {x p : ℤ} {k : ℕ} (fx : SFits w64 x) (fp : SFits w64 p) (K : 1 ≤ 
         let v : ltZ (pos 4294967296) x ≡ false = rw (toZ-ofZ fx) at r in
         size-of x (omega (arith, lt-no (pos 4294967296) x v)) (omega (arith, lt-no x (negsuc 4294967295) u))
 
-    product-fits : SFits w64 (x *ℤ pos k)
-    product-fits = small-fits (x *ℤ pos k) (omega (arith, abs-mul x k, mul-le-mul x-most M))
+    x-fits : SFits w64 (x *ℤ pos k)
+    x-fits = small-fits (x *ℤ pos k) (omega (arith, abs-mul x k, mul-le-mul x-most M))
 
     sum-fits : SFits w64 (x *ℤ pos k +ℤ p)
     sum-fits = fits-of w64 (x *ℤ pos k +ℤ p) (omega (arith, add-pn (x *ℤ pos k) p, size-pn (x *ℤ pos k), size-pn p, abs-mul x k, mul-le-mul x-most M))
 
-    factor : toZ w64 k ≡ pos k
-    factor = toZ-pos w64 {n = k} (omega arith)
+    k-is : toZ w64 k ≡ pos k
+    k-is = toZ-pos w64 {n = k} (omega arith)
 
     pub count-product : SFits w64 (rd w64 x *ℤ toZ w64 k)
-    count-product = rw (toZ-ofZ fx, factor) product-fits
+    count-product = rw (toZ-ofZ fx, k-is) x-fits
 
     pub count-sum : SFits w64 (rd w64 (rd w64 x *ℤ toZ w64 k) +ℤ rd w64 p)
-    count-sum = rw (toZ-ofZ fx, factor, toZ-ofZ product-fits, toZ-ofZ fp) sum-fits
+    count-sum = rw (toZ-ofZ fx, k-is, toZ-ofZ x-fits, toZ-ofZ fp) sum-fits
 
     pub count-is : rd w64 (rd w64 (rd w64 x *ℤ toZ w64 k) +ℤ rd w64 p) ≡ x *ℤ pos k +ℤ p
-    count-is = rw (toZ-ofZ fx, factor, toZ-ofZ product-fits, toZ-ofZ fp, toZ-ofZ sum-fits)
+    count-is = rw (toZ-ofZ fx, k-is, toZ-ofZ x-fits, toZ-ofZ fp, toZ-ofZ sum-fits)
 
 -- ---- a count of 64 bits: x times k, and p, of one sign
 

@@ -1,7 +1,7 @@
 -- Cutting toward zero, as a whole part and a fraction: what an amount times a unit comes to. Assumes nothing.
-use mathlib.Core.Path.{_≡_}
+use mathlib.Core.Path.{_≡_, sym, _∙_}
 use Prim.Native.Nat.{ℕ, _+_, _*_, _/_, _^_, _<_}
-use native.Mathlib.Nat.{mul-add-div-right, mul-div-mul-right, mul-assoc, one-le-pow}
+use native.Mathlib.Nat.{mul-add-div-right, mul-div-mul-right, mul-assoc, mul-comm, one-le-pow}
 use native.Mathlib.Omega.{arith}
 use Rattle.number.specs.Widths.{signed}
 use Rattle.interval.specs.Contribution.{Value, times}
@@ -19,6 +19,8 @@ pub times-cut : (n k : ℕ) (a : Value) → times n k a ≡ signed (a .neg) (a .
 unfolding times
 times-cut n k a = rw (cut (a .integer) (a .frac) k (10 ^ n) (ten-pos n))
 
--- a common factor of the unit and the scale goes out
-pub cut-factor : (f a b c : ℕ) → 0 < b → f * (a * b) / (c * b) ≡ f * a / c
-cut-factor f a b c h = rw (← mul-assoc f a b) (mul-div-mul-right (f * a) c h)
+-- the fraction's factor k over s may be any other ratio a over c of the same size
+pub cut-ratio : (f k s a c : ℕ) → 0 < s → 0 < c → k * c ≡ a * s → f * k / s ≡ f * a / c
+cut-ratio f k s a c p q e =
+    let l : f * k * c ≡ f * a * s = mul-assoc f k c ∙ rw e (sym (mul-assoc f a s)) in
+    sym (mul-div-mul-right (f * k) s q) ∙ rw (l, mul-comm s c) (mul-div-mul-right (f * a) c p)

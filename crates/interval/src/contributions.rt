@@ -11,12 +11,12 @@ use number::Int64;
 use number::checked;
 ghost use mathlib.Core.Path.{_≡_};
 ghost use mathlib.Core.Bool.{Bool};
-ghost use mathlib.Core.Option.{some};
 ghost use Prim.Native.Nat.{ℕ, _+_, _*_, _^_, _≤_, _<_};
 ghost use lib.IntN.{pos, natAbs, _+ℤ_, _*ℤ_};
+ghost use lib.Signed.{quotZ};
 ghost use Rattle.number.specs.Widths.{fit, signed, int32, int64};
 ghost use Rattle.interval.specs.Grammar.{precision};
-ghost use Rattle.interval.specs.Contribution.{Value, contribution, countsOf};
+ghost use Rattle.interval.specs.Contribution.{Value, times, wholeTimes, fracTimes, contribution, countsOf, counts as threeOf};
 ghost use Rattle.interval.specs.Answer.{plus};
 ghost use Rattle.interval.specs.Read.{amountFrom, sumOf, Most, together, fitting, added, onAdded};
 
@@ -70,68 +70,99 @@ pub fn counts(months: Int32, days: Int32, nanos: Int64) -> Sum
     })
 }
 
-// Nanoseconds alone.
-pub fn nanos(whole: i64, k: u64, most: u64, part: i64) -> Sum
-    requires { ⌜ Most k most ⌝ }
-    ensures { λ r. ⌜ ((neg : Bool) (m j : ℕ) → whole ≡ signed neg m → part ≡ signed neg j → sumOf r ≡ together (some (pos 0)) (some (pos 0)) (fit 63 (whole *ℤ pos k +ℤ part))) ⌝ }
+// A fraction times a over c, cut toward zero.
+pub fn cut(frac: i64, a: u32, c: u64) -> i64
+    requires { ⌜ (natAbs frac < 10 ^ precision) × (a ≤ 6048) × (0 < c) × (c ≤ 10 ^ precision) ⌝ }
+    ensures { λ r. ⌜ r ≡ quotZ (frac *ℤ pos a) (pos c) ⌝ }
 {
+    frac * (a as i64) / (c as i64)
+}
+
+// Months alone: the amount times k, where k is a over c for a fraction that counts ten to the limit.
+pub fn months(amount: IntervalAmount, k: u32, a: u32, c: u64) -> Sum
+    requires { ⌜ (natAbs (amount .frac) < 10 ^ precision) × (1 ≤ k) × (k ≤ 1200) × (a ≤ 6048) × (0 < c) × (c ≤ 10 ^ precision) × (k * c ≡ a * 10 ^ precision) ⌝ }
+    ensures { λ r. ⌜ ((v : Value) → amount ≡ amountFrom v → sumOf r ≡ fitting (threeOf (times precision k v) (pos 0) (pos 0))) ⌝ }
+{
+    let whole = amount.integer;
+    let frac = amount.frac;
     counts(
+        count32(whole, k, cut(frac, a, c)),
         Int32::Some(0),
-        Int32::Some(0),
-        count64(whole, k, most, part),
+        Int64::Some(0),
     )
 }
 
-// What an amount of a unit comes to. Factors and divisors of fractions are the Rust's, with the powers of ten taken out.
+// Months, and thirty days to one of them.
+pub fn months_and_days(amount: IntervalAmount) -> Sum
+    requires { ⌜ natAbs (amount .frac) < 10 ^ precision ⌝ }
+    ensures { λ r. ⌜ ((v : Value) → amount ≡ amountFrom v → sumOf r ≡ fitting (threeOf (wholeTimes 1 v) (fracTimes precision 30 v) (pos 0))) ⌝ }
+{
+    let whole = amount.integer;
+    let frac = amount.frac;
+    counts(
+        count32(whole, 1, 0),
+        count32(0, 1, cut(frac, 3, 100_000_000_000_000)),
+        Int64::Some(0),
+    )
+}
+
+// Days, k to one of the amount, and the nanoseconds of its fraction, where a counts 10^11.
+pub fn days_and_nanos(amount: IntervalAmount, k: u32, a: u32) -> Sum
+    requires { ⌜ (natAbs (amount .frac) < 10 ^ precision) × (1 ≤ k) × (k ≤ 1200) × (a ≤ 6048) ⌝ }
+    ensures { λ r. ⌜ ((v : Value) → amount ≡ amountFrom v → sumOf r ≡ fitting (threeOf (pos 0) (wholeTimes k v) (fracTimes precision (a * 100_000_000_000) v))) ⌝ }
+{
+    let whole = amount.integer;
+    let frac = amount.frac;
+    counts(
+        Int32::Some(0),
+        count32(whole, k, 0),
+        Int64::Some(cut(frac, a, 10_000)),
+    )
+}
+
+// Nanoseconds alone: the amount times k, of which `most` fit.
+pub fn nanos(amount: IntervalAmount, k: u64, most: u64, a: u32, c: u64) -> Sum
+    requires { ⌜ (natAbs (amount .frac) < 10 ^ precision) × Most k most × (a ≤ 6048) × (0 < c) × (c ≤ 10 ^ precision) × (k * c ≡ a * 10 ^ precision) ⌝ }
+    ensures { λ r. ⌜ ((v : Value) → amount ≡ amountFrom v → sumOf r ≡ fitting (threeOf (pos 0) (pos 0) (times precision k v))) ⌝ }
+{
+    let whole = amount.integer;
+    let frac = amount.frac;
+    counts(
+        Int32::Some(0),
+        Int32::Some(0),
+        count64(whole, k, most, cut(frac, a, c)),
+    )
+}
+
+// A nanosecond is not cut.
+pub fn nanoseconds(amount: IntervalAmount) -> Sum
+    requires { ⌜ natAbs (amount .frac) < 10 ^ precision ⌝ }
+    ensures { λ r. ⌜ ((v : Value) → amount ≡ amountFrom v → sumOf r ≡ fitting (threeOf (pos 0) (pos 0) (times precision 1 v))) ⌝ }
+{
+    let whole = amount.integer;
+    counts(Int32::Some(0), Int32::Some(0), Int64::Some(whole))
+}
+
+// What an amount of a unit comes to: document 01's table. As in the Rust, factors and divisors of fractions have no power of ten in common.
 pub fn contribution(amount: IntervalAmount, unit: IntervalUnit) -> Sum
     requires { ⌜ natAbs (amount .frac) < 10 ^ precision ⌝ }
     ensures { λ r. ⌜ ((v : Value) → amount ≡ amountFrom v → sumOf r ≡ fitting (contribution precision unit v)) ⌝ }
 {
-    let whole = amount.integer;
-    let frac = amount.frac;
     match unit {
-        IntervalUnit::Century => counts(
-            count32(whole, 1200, frac * 12 / 10_000_000_000_000),
-            Int32::Some(0),
-            Int64::Some(0),
-        ),
-        IntervalUnit::Decade => counts(
-            count32(whole, 120, frac * 12 / 100_000_000_000_000),
-            Int32::Some(0),
-            Int64::Some(0),
-        ),
-        IntervalUnit::Year => counts(
-            count32(whole, 12, frac * 12 / 1_000_000_000_000_000),
-            Int32::Some(0),
-            Int64::Some(0),
-        ),
-        IntervalUnit::Month => counts(
-            count32(whole, 1, 0),
-            count32(0, 1, frac * 3 / 100_000_000_000_000),
-            Int64::Some(0),
-        ),
-        IntervalUnit::Week => counts(
-            Int32::Some(0),
-            count32(whole, 7, 0),
-            Int64::Some(frac * 6048 / 10_000),
-        ),
-        IntervalUnit::Day => counts(
-            Int32::Some(0),
-            count32(whole, 1, 0),
-            Int64::Some(frac * 864 / 10_000),
-        ),
-        IntervalUnit::Hour => nanos(whole, 3_600_000_000_000, 2_562_047, frac * 36 / 10_000),
-        IntervalUnit::Minute => nanos(whole, 60_000_000_000, 153_722_867, frac * 6 / 100_000),
-        IntervalUnit::Second => nanos(whole, 1_000_000_000, 9_223_372_036, frac / 1_000_000),
-        IntervalUnit::Millisecond => {
-            nanos(whole, 1_000_000, 9_223_372_036_854, frac / 1_000_000_000)
-        }
+        IntervalUnit::Century => months(amount, 1200, 12, 10_000_000_000_000),
+        IntervalUnit::Decade => months(amount, 120, 12, 100_000_000_000_000),
+        IntervalUnit::Year => months(amount, 12, 12, 1_000_000_000_000_000),
+        IntervalUnit::Month => months_and_days(amount),
+        IntervalUnit::Week => days_and_nanos(amount, 7, 6048),
+        IntervalUnit::Day => days_and_nanos(amount, 1, 864),
+        IntervalUnit::Hour => nanos(amount, 3_600_000_000_000, 2_562_047, 36, 10_000),
+        IntervalUnit::Minute => nanos(amount, 60_000_000_000, 153_722_867, 6, 100_000),
+        IntervalUnit::Second => nanos(amount, 1_000_000_000, 9_223_372_036, 1, 1_000_000),
+        IntervalUnit::Millisecond => nanos(amount, 1_000_000, 9_223_372_036_854, 1, 1_000_000_000),
         IntervalUnit::Microsecond => {
-            nanos(whole, 1_000, 9_223_372_036_854_775, frac / 1_000_000_000_000)
+            nanos(amount, 1_000, 9_223_372_036_854_775, 1, 1_000_000_000_000)
         }
-        IntervalUnit::Nanosecond => {
-            counts(Int32::Some(0), Int32::Some(0), Int64::Some(whole))
-        }
+        IntervalUnit::Nanosecond => nanoseconds(amount),
     }
 }
 
