@@ -1,0 +1,38 @@
+-- `interval::Interval::add` meets its contract: the contribution fits and goes to the totals, or it does not. Assumes nothing.
+use borrow.Author.Needs.{needs}
+use mathlib.Core.Path.{sym, ap, _∙_}
+use Rattle.interval.specs.Grammar.{precision}
+use Rattle.interval.specs.Contribution.{contribution, countsOf}
+use Rattle.interval.specs.Read.{sumOf}
+use Rattle.interval.proofs.Adding.{adds, over}
+use Rattle.interval.proofs.Interval.add.Statement.{statement}
+use Rattle.interval.proofs.Interval.add.Tie as tie
+
+contribution-requires : tie.Need-contribution-requires
+contribution-requires c κs = search needs
+
+enum-known-more : tie.Need-enum-known-more
+enum-known-more c = search needs
+
+plus-requires : tie.Need-plus-requires
+plus-requires c κs = search needs
+
+enum-told : tie.Need-enum-told
+enum-told c = search needs
+
+returns : tie.Need-returns
+returns c v E =
+    let k = c .before .before in
+    let x = k .before .before .before .args in
+    c .plus .ensures ∙ adds (countsOf (x .self)) (contribution precision (x .unit) v) (sym (ap sumOf (k .more .given .1)) ∙ k .before .before .contribution .ensures v E)
+
+returns-2 : tie.Need-returns-2
+returns-2 c v E =
+    let k = c .before .before in
+    let x = k .before .args in
+    over (countsOf (x .self)) (contribution precision (x .unit) v) (sym (ap sumOf (c .enum-told .given .1)) ∙ k .contribution .ensures v E)
+
+pub add-spec : {M : Type 1} → statement M
+add-spec =
+    tie.close
+    (tie.spec contribution-requires enum-known-more plus-requires enum-told returns returns-2)

@@ -1,0 +1,185 @@
+-- Readings of the definitions: document 01's interval readings, and others that reach each unit, each sign, and each limit on both
+-- sides. Assumes nothing.
+use mathlib.Core.Path.{_≡_, refl}
+use mathlib.Core.List.{List, [], _∷_, _++_, map}
+use Prim.Native.Nat.{ℕ}
+use Prim.Native.String.{String}
+use lib.IntN.{ℤ, pos, negℤ}
+use Rattle.text.specs.Digits.{value, run}
+use Rattle.text.specs.Utf8.{encode, wellFormed}
+use Rattle.text.specs.WhiteSpace.{white1, white2, white3, whiteOf}
+use Rattle.refusal.specs.Outcome.{Outcome, accepted, refused}
+use Rattle.interval.specs.Quoted.{bytes}
+use Rattle.interval.specs.Units.{rank, spellings, same, oneOf, find, low, kelvin, lower, unitOf, present, isUnit}
+use Rattle.interval.specs.Grammar.{precision, wholeFits}
+use Rattle.interval.specs.Division.{negative, signLen, pointLen, digitsLen, amountLen, wordLen, endStep, unitStep, restStep, amountStep, step, before, then, divideBy, divide}
+use Rattle.interval.specs.Contribution.{Counts, counts, fracOf, unsignedOf, amountOf, times, wholeTimes, fracTimes, contribution}
+use Rattle.interval.specs.Answer.{orElse, spelled, unitFor, gives, fits, plus, totals, has, twice, onTotals, onDivision, monthDayNano, DayTime, dayTimeOf, toYearMonths, dayTimeFits, toDayTime, orNarrowed, narrowed, yearMonth, dayTime, plainMonthDayNano}
+use Rattle.interval.specs.declared.IntervalUnit.{IntervalUnit}
+use Rattle.interval.specs.declared.IntervalUnit.the-variants.{Century, Month, Nanosecond}
+
+-- an answer in one of the forms
+pub data Said : Type 0 where
+  in-counts : Outcome Counts → Said
+  in-months : Outcome ℤ → Said
+  in-days : Outcome DayTime → Said
+
+-- a reader, a text, and the answer
+pub data Row : Type 0 where
+  row : (List ℕ → Said) → List ℕ → Said → Row
+
+abbrev computed : Row → Said
+computed (row reader t r) = reader t
+
+abbrev told : Row → Said
+told (row reader t r) = r
+
+-- the plain month-day-nano reader
+abbrev plain : List ℕ → Outcome Counts → Row
+plain t r = row (λ s. in-counts (plainMonthDayNano precision s)) t (in-counts r)
+
+-- it reads months, days and nanoseconds
+abbrev reads : String → ℤ → ℤ → ℤ → Row
+reads t m d n = plain (bytes t) (accepted (counts m d n))
+
+-- it refuses
+abbrev refuses : String → ℕ → Row
+refuses t k = plain (bytes t) (refused k)
+
+-- the reader with a limit of fraction digits and a default unit
+abbrev config : ℕ → IntervalUnit → String → Outcome Counts → Row
+config n u t r = row (λ s. in-counts (monthDayNano n u s)) (bytes t) (in-counts r)
+
+abbrev year-month : String → Outcome ℤ → Row
+year-month t r = row (λ s. in-months (yearMonth precision s)) (bytes t) (in-months r)
+
+abbrev day-time : String → Outcome DayTime → Row
+day-time t r = row (λ s. in-days (dayTime precision s)) (bytes t) (in-days r)
+
+abbrev minus : ℕ → ℤ
+minus k = negℤ (pos k)
+
+abbrev rows : List Row
+rows =
+    -- document 01, "Readings on either side"
+    refuses "" 8 ∷
+    reads "1.5 months" (pos 1) (pos 15) (pos 0) ∷
+    reads "-.5 days" (pos 0) (pos 0) (minus 43_200_000_000_000) ∷
+    reads "0.5 weeks" (pos 0) (pos 0) (pos 302_400_000_000_000) ∷
+    config precision Month "1 day 2" (accepted (counts (pos 2) (pos 1) (pos 0))) ∷
+    refuses "1  day" 8 ∷
+    refuses "+1 day" 8 ∷
+    refuses "1 day 1 d" 9 ∷
+    reads "1.000000000000000 days" (pos 0) (pos 1) (pos 0) ∷
+    refuses "1.0000000000000000 days" 8 ∷
+    reads "306783378 weeks -2 days 0.1 months" (pos 0) (pos 2_147_483_647) (pos 0) ∷
+    refuses "306783378 weeks 0.1 months -2 days" 10 ∷
+    year-month "1 week -7 days" (accepted (pos 0)) ∷
+    reads "0.13 years" (pos 1) (pos 0) (pos 0) ∷
+    -- each unit, and each sign
+    reads "1.5 centuries" (pos 1800) (pos 0) (pos 0) ∷
+    reads "1.5 decades" (pos 180) (pos 0) (pos 0) ∷
+    reads "1.5 years" (pos 18) (pos 0) (pos 0) ∷
+    reads "1.5 weeks" (pos 0) (pos 7) (pos 302_400_000_000_000) ∷
+    reads "1.5 days" (pos 0) (pos 1) (pos 43_200_000_000_000) ∷
+    reads "1.5 hours" (pos 0) (pos 0) (pos 5_400_000_000_000) ∷
+    reads "1.5 minutes" (pos 0) (pos 0) (pos 90_000_000_000) ∷
+    reads "1.5 seconds" (pos 0) (pos 0) (pos 1_500_000_000) ∷
+    reads "1.5 milliseconds" (pos 0) (pos 0) (pos 1_500_000) ∷
+    reads "1.5 microseconds" (pos 0) (pos 0) (pos 1_500) ∷
+    reads "1.5 nanoseconds" (pos 0) (pos 0) (pos 1) ∷
+    reads "-1.999 centuries" (minus 2398) (pos 0) (pos 0) ∷
+    reads "-1.999 months" (minus 1) (minus 29) (pos 0) ∷
+    reads "-1.999 weeks" (pos 0) (minus 7) (minus 604_195_200_000_000) ∷
+    reads "-1.999 nanoseconds" (pos 0) (pos 0) (minus 1) ∷
+    reads "0.999999999999999 weeks" (pos 0) (pos 0) (pos 604_799_999_999_999) ∷
+    reads "0.999999999999999 days" (pos 0) (pos 0) (pos 86_399_999_999_999) ∷
+    reads "-0.000000000000001 weeks" (pos 0) (pos 0) (pos 0) ∷
+    reads "-0.000000000000002 weeks" (pos 0) (pos 0) (minus 1) ∷
+    reads "1c 2dec 3y 4mon 5w 6d 7h 8m 9s 10ms 11us 12nanosecond" (pos 1480) (pos 41) (pos 25_689_010_011_012) ∷
+    -- default units
+    reads "7" (pos 7) (pos 0) (pos 0) ∷
+    year-month "7" (accepted (pos 84)) ∷
+    day-time "7" (accepted (dayTimeOf (pos 7) (pos 0))) ∷
+    config precision Century "7" (accepted (counts (pos 8400) (pos 0) (pos 0))) ∷
+    config precision Nanosecond "-7" (accepted (counts (pos 0) (pos 0) (minus 7))) ∷
+    refuses "1 month 2" 9 ∷
+    -- spelling and white space
+    plain (bytes "1 wee" ++ (encode 0x212A ++ bytes " 1 MONTH 1 DAY")) (accepted (counts (pos 1) (pos 8) (pos 0))) ∷
+    plain (bytes "1" ++ (encode 0x3000 ++ (bytes "day" ++ (encode 0x00A0 ++ bytes "2")))) (accepted (counts (pos 2) (pos 1) (pos 0))) ∷
+    refuses "1 fortnight" 8 ∷
+    refuses "1 day " 8 ∷
+    refuses " 1 day" 8 ∷
+    refuses "1 2 days" 8 ∷
+    refuses "day" 8 ∷
+    -- amounts
+    reads "007 days" (pos 0) (pos 7) (pos 0) ∷
+    refuses "7. days" 8 ∷
+    refuses "." 8 ∷
+    refuses "-" 8 ∷
+    refuses "--1 day" 8 ∷
+    refuses "1.-5 days" 8 ∷
+    refuses "1.5.5 days" 8 ∷
+    reads "9223372036854775807 nanoseconds" (pos 0) (pos 0) (pos 9_223_372_036_854_775_807) ∷
+    refuses "9223372036854775808 nanoseconds" 8 ∷
+    reads "-9223372036854775808 nanoseconds" (pos 0) (pos 0) (minus 9_223_372_036_854_775_808) ∷
+    refuses "-9223372036854775809 nanoseconds" 8 ∷
+    config 18 Month "0.000000000000000001 months" (accepted (counts (pos 0) (pos 0) (pos 0))) ∷
+    config 18 Month "0.0000000000000000001 months" (refused 8) ∷
+    -- contributions that fit and do not
+    reads "2147483647 months" (pos 2_147_483_647) (pos 0) (pos 0) ∷
+    refuses "2147483648 months" 10 ∷
+    reads "-2147483648 months" (minus 2_147_483_648) (pos 0) (pos 0) ∷
+    refuses "-2147483649 months" 10 ∷
+    reads "2147483647 days" (pos 0) (pos 2_147_483_647) (pos 0) ∷
+    refuses "2147483648 days" 10 ∷
+    reads "-2147483648 days" (pos 0) (minus 2_147_483_648) (pos 0) ∷
+    refuses "-2147483649 days" 10 ∷
+    reads "9223372036854775.807 us" (pos 0) (pos 0) (pos 9_223_372_036_854_775_807) ∷
+    refuses "9223372036854775.808 us" 10 ∷
+    reads "-9223372036854775.808 us" (pos 0) (pos 0) (minus 9_223_372_036_854_775_808) ∷
+    refuses "-9223372036854775.809 us" 10 ∷
+    -- running totals that fit, of contributions that do not
+    refuses "-1 month 178956970.67 years" 10 ∷
+    refuses "-6 days 306783379 weeks" 10 ∷
+    refuses "-1 nanosecond 9223372036854775.808 us" 10 ∷
+    -- running totals that fit and do not, of contributions that fit
+    reads "2147483635 months 1 year" (pos 2_147_483_647) (pos 0) (pos 0) ∷
+    refuses "2147483636 months 1 year" 10 ∷
+    reads "-2147483636 months -1 year" (minus 2_147_483_648) (pos 0) (pos 0) ∷
+    refuses "-2147483637 months -1 year" 10 ∷
+    reads "2147483640 days 1 week" (pos 0) (pos 2_147_483_647) (pos 0) ∷
+    refuses "2147483641 days 1 week" 10 ∷
+    reads "-2147483641 days -1 week" (pos 0) (minus 2_147_483_648) (pos 0) ∷
+    refuses "-2147483642 days -1 week" 10 ∷
+    reads "9223372036854774807 nanoseconds 1 us" (pos 0) (pos 0) (pos 9_223_372_036_854_775_807) ∷
+    refuses "9223372036854774808 nanoseconds 1 us" 10 ∷
+    reads "-9223372036854774808 nanoseconds -1 us" (pos 0) (pos 0) (minus 9_223_372_036_854_775_808) ∷
+    refuses "-9223372036854774809 nanoseconds -1 us" 10 ∷
+    -- the order of refusals
+    plain (0x31 ∷ 0xFF ∷ []) (refused 1) ∷
+    refuses "1 day 1 day é" 8 ∷
+    refuses "99999999999 days 1 day" 9 ∷
+    year-month "99999999999 days" (refused 10) ∷
+    -- year-month
+    year-month "-1 year 1 month" (accepted (minus 11)) ∷
+    year-month "1 year 1 day" (refused 11) ∷
+    year-month "1 year -1 nanosecond" (refused 11) ∷
+    -- day-time
+    day-time "71582788 months 7 days" (accepted (dayTimeOf (pos 2_147_483_647) (pos 0))) ∷
+    day-time "71582788 months 8 days" (refused 11) ∷
+    day-time "71582789 months -23 days" (refused 11) ∷
+    day-time "-71582788 months -8 days" (accepted (dayTimeOf (minus 2_147_483_648) (pos 0))) ∷
+    day-time "-71582788 months -9 days" (refused 11) ∷
+    day-time "-71582789 months 23 days" (refused 11) ∷
+    day-time "2147483647 ms" (accepted (dayTimeOf (pos 0) (pos 2_147_483_647))) ∷
+    day-time "2147483648 ms" (refused 11) ∷
+    day-time "-2147483648 ms" (accepted (dayTimeOf (pos 0) (minus 2_147_483_648))) ∷
+    day-time "-2147483649 ms" (refused 11) ∷
+    day-time "1 us" (refused 11) ∷
+    day-time "-1.5 ms" (refused 11) ∷
+    []
+
+pub readings : map computed rows ≡ map told rows
+unfolding value run wellFormed white1 white2 white3 whiteOf rank spellings same oneOf find low kelvin lower unitOf present isUnit wholeFits negative signLen pointLen digitsLen amountLen wordLen endStep unitStep restStep amountStep step before then divideBy divide fracOf unsignedOf amountOf times wholeTimes fracTimes contribution orElse spelled unitFor gives fits plus totals has twice onTotals onDivision monthDayNano toYearMonths dayTimeFits toDayTime orNarrowed narrowed yearMonth dayTime plainMonthDayNano
+readings = refl

@@ -1,0 +1,25 @@
+-- `interval::Sum::add` meets its contract. Assumes nothing.
+use borrow.Author.Needs.{needs}
+use Rattle.interval.specs.Read.{onAdded}
+use Rattle.interval.proofs.Sum.add.Statement.{statement}
+use Rattle.interval.proofs.Sum.add.Tie as tie
+
+enum-known-self : tie.Need-enum-known-self
+enum-known-self c = search needs
+
+add-requires : tie.Need-add-requires
+add-requires c κs = search needs
+
+enum-told : tie.Need-enum-told
+enum-told c = search needs
+
+returns : tie.Need-returns
+unfolding onAdded
+returns c v E = rw (c .before .before .self .given .1) (c .add .ensures v E)
+
+returns-2 : tie.Need-returns-2
+unfolding onAdded
+returns-2 c v E = rw (c .enum-told .given .1)
+
+pub add-spec : {M : Type 1} → statement M
+add-spec = tie.close (tie.spec enum-known-self add-requires enum-told returns returns-2)

@@ -1,0 +1,145 @@
+-- `interval::components::parse_interval_components` meets its contract. The loop's invariant: marks, repeat and totals so far, and what is
+-- left of the text, give its answer. The measure is what is left of the text. Assumes nothing.
+use mathlib.Core.Path.{_≡_, refl, sym, ap, _∙_}
+use Prim.Native.Nat.{_-_, _≤_}
+use native.Mathlib.Omega.{arith}
+use lib.ListN.{length, length-set}
+use borrow.Author.Needs.{needs}
+use mathlib.Core.Bool.{true}
+use Rattle.interval.specs.Read.{unitRead, sumOf, LastIs, MoreIs, pieceIs}
+use Rattle.interval.proofs.Folding.{Goes, rank-below, starts, bad-answer, last-answer, more-goes}
+use Rattle.interval.proofs.components.parse_interval_components.Statement.{statement}
+use Rattle.interval.proofs.components.parse_interval_components.Tie as tie
+
+abbrev Inv-loop : tie.InvT-loop
+Inv-loop value default-unit at₀ seen₀ repeated₀ total₀ at seen repeated total =
+    (at ≤ length value) × (length seen ≡ 12) × Goes value default-unit at seen repeated (sumOf total)
+
+abbrev μ-loop : tie.MeasureT-loop
+μ-loop value default-unit at₀ seen₀ repeated₀ total₀ at seen repeated total = length value - at
+
+loop-holds : tie.Need-loop-holds Inv-loop μ-loop
+loop-holds c = (omega arith, refl, starts (c .before .args .value .now) (c .before .args .default-unit))
+
+split-interval-component-requires : tie.Need-split-interval-component-requires Inv-loop μ-loop
+split-interval-component-requires c κs = search needs
+
+enum-told : tie.Need-enum-told Inv-loop μ-loop
+enum-told c = search needs
+
+of-requires : tie.Need-of-requires Inv-loop μ-loop
+of-requires c κs = search needs
+
+returns : tie.Need-returns Inv-loop μ-loop
+unfolding pieceIs
+returns c =
+    let t = c .before in
+    let q = t .before .before in
+    let l = q .before in
+    let x = l .before .before .args in
+    bad-answer (x .value .now) (x .default-unit) (l .loop .at) (l .loop .seen) (l .loop .repeated) (sumOf (l .loop .total)) (l .loop .inv .2) (rw (t .enum-told .given .1) at (q .split-interval-component .ensures)) (c .of .ensures)
+
+enum-known-amount : tie.Need-enum-known-amount Inv-loop μ-loop
+enum-known-amount c = search needs
+
+or-default-requires : tie.Need-or-default-requires Inv-loop μ-loop
+or-default-requires c κs = search needs
+
+mark-requires : tie.Need-mark-requires Inv-loop μ-loop
+mark-requires c κs = search needs
+
+array-read-settled : tie.Need-array-read-settled Inv-loop μ-loop
+array-read-settled c = omega (arith, c .mark .ensures, rank-below (c .before .or-default .result))
+
+add-requires : tie.Need-add-requires Inv-loop μ-loop
+unfolding pieceIs
+add-requires c κs =
+    let p = c .before .before .before in
+    let q = p .before .before in
+    let l = q .before in
+    let x = l .before .before .args in
+    let L : LastIs (x .value .now) (l .loop .at) (p .amount .given .0 .0) (unitRead (p .amount .given .0 .1 .0)) = rw (p .amount .given .1) at (q .split-interval-component .ensures) in
+    L .holds .small
+
+settled-requires : tie.Need-settled-requires Inv-loop μ-loop
+settled-requires c κs = search needs
+
+returns-2 : tie.Need-returns-2 Inv-loop μ-loop
+unfolding pieceIs
+returns-2 c =
+    let p = c .before .before .before .before .before in
+    let q = p .before .before in
+    let l = q .before in
+    let x = l .before .before .args in
+    let L : LastIs (x .value .now) (l .loop .at) (p .amount .given .0 .0) (unitRead (p .amount .given .0 .1 .0)) = rw (p .amount .given .1) at (q .split-interval-component .ensures) in
+    let o = c .before .before .before in
+    last-answer (x .value .now) (x .default-unit) (l .loop .at) (l .loop .seen) (l .loop .repeated) (sumOf (l .loop .total)) (l .loop .inv .2) (p .amount .given .0 .0) (o .or-default .result) (c .before .before .mark .ensures) (c .before .add .ensures) L (o .or-default .ensures) (c .settled .ensures)
+
+enum-known-amount-2 : tie.Need-enum-known-amount-2 Inv-loop μ-loop
+enum-known-amount-2 c = search needs
+
+mark-requires-2 : tie.Need-mark-requires-2 Inv-loop μ-loop
+mark-requires-2 c κs = search needs
+
+array-read-repeated : tie.Need-array-read-repeated Inv-loop μ-loop
+array-read-repeated c = omega (arith, c .mark2 .ensures, rank-below (c .before .before .amount2 .given .0 .1 .0))
+
+array-write-seen : tie.Need-array-write-seen Inv-loop μ-loop
+array-write-seen c = array-read-repeated c
+
+add-requires-2 : tie.Need-add-requires-2 Inv-loop μ-loop
+unfolding pieceIs
+add-requires-2 c κs =
+    let p = c .before .before in
+    let q = p .before .before in
+    let l = q .before in
+    let x = l .before .before .args in
+    let M : MoreIs (x .value .now) (l .loop .at) (p .amount2 .given .0 .0) (p .amount2 .given .0 .1 .0) (p .amount2 .given .0 .1 .1 .0) = rw (p .amount2 .given .1) at (q .split-interval-component .ensures) in
+    M .holds .small
+
+loop-less : tie.Need-loop-less Inv-loop μ-loop
+unfolding pieceIs
+loop-less c =
+    let p = c .before .before .before in
+    let q = p .before .before in
+    let l = q .before in
+    let x = l .before .before .args in
+    let M : MoreIs (x .value .now) (l .loop .at) (p .amount2 .given .0 .0) (p .amount2 .given .0 .1 .0) (p .amount2 .given .0 .1 .1 .0) = rw (p .amount2 .given .1) at (q .split-interval-component .ensures) in
+    omega (arith, M .further, M .inside)
+
+loop-again : tie.Need-loop-again Inv-loop μ-loop
+unfolding pieceIs
+loop-again c =
+    let p = c .before .before .before in
+    let q = p .before .before in
+    let l = q .before in
+    let x = l .before .before .args in
+    let M : MoreIs (x .value .now) (l .loop .at) (p .amount2 .given .0 .0) (p .amount2 .given .0 .1 .0) (p .amount2 .given .0 .1 .1 .0) = rw (p .amount2 .given .1) at (q .split-interval-component .ensures) in
+    let m = c .before .mark2 in
+    (M .inside, length-set (l .loop .seen) (m .result) true ∙ l .loop .inv .1, more-goes (x .value .now) (x .default-unit) (l .loop .at) (l .loop .seen) (l .loop .repeated) (sumOf (l .loop .total)) (l .loop .inv .2) (p .amount2 .given .0 .0) (p .amount2 .given .0 .1 .0) (m .ensures) (c .add2 .ensures) (l .loop .inv .1) M)
+
+pub parse-interval-components-spec : {M : Type 1} → statement M
+parse-interval-components-spec =
+    tie.close
+    (tie.spec
+    Inv-loop
+    μ-loop
+    loop-holds
+    split-interval-component-requires
+    enum-told
+    of-requires
+    returns
+    enum-known-amount
+    or-default-requires
+    mark-requires
+    array-read-settled
+    add-requires
+    settled-requires
+    returns-2
+    enum-known-amount-2
+    mark-requires-2
+    array-read-repeated
+    array-write-seen
+    add-requires-2
+    loop-less
+    loop-again)

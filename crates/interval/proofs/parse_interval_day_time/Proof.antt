@@ -1,0 +1,68 @@
+-- `interval::parse_interval_day_time` meets its contract: the interval of the text, narrowed. Assumes nothing.
+use borrow.Author.Needs.{needs}
+use mathlib.Core.Path.{sym, ap, _∙_}
+use Rattle.interval.specs.Answer.{toDayTime, dayTime}
+use Rattle.interval.specs.Read.{intervalOutcome, maybeDayTime}
+use Rattle.interval.proofs.Narrower.{narrows-to, narrows-none, narrows-refused}
+use Rattle.interval.proofs.parse_interval_day_time.Statement.{statement}
+use Rattle.interval.proofs.parse_interval_day_time.Tie as tie
+
+new-requires : tie.Need-new-requires
+new-requires c κs = search needs
+
+parse-requires : tie.Need-parse-requires
+parse-requires c κs = search needs
+
+enum-known-interval : tie.Need-enum-known-interval
+enum-known-interval c = search needs
+
+to-day-time-requires : tie.Need-to-day-time-requires
+to-day-time-requires c κs = search needs
+
+enum-known-both : tie.Need-enum-known-both
+enum-known-both c = search needs
+
+enum-told : tie.Need-enum-told
+enum-told c = search needs
+
+enum-known-why : tie.Need-enum-known-why
+enum-known-why c = search needs
+
+returns : tie.Need-returns
+unfolding dayTime
+returns c =
+    let y = c .before .before .before in
+    let i = y .before .before in
+    let p = i .before .before in
+    let o = sym (rw (p .before .new .ensures) at (p .parse .ensures)) ∙ ap intervalOutcome (i .interval .given .1) in
+    narrows-to toDayTime o (sym (ap maybeDayTime (c .before .both .given .1)) ∙ y .to-day-time .ensures)
+
+returns-2 : tie.Need-returns-2
+unfolding dayTime
+returns-2 c =
+    let y = c .before .before in
+    let i = y .before .before in
+    let p = i .before .before in
+    let o = sym (rw (p .before .new .ensures) at (p .parse .ensures)) ∙ ap intervalOutcome (i .interval .given .1) in
+    narrows-none toDayTime o (sym (ap maybeDayTime (c .enum-told .given .1)) ∙ y .to-day-time .ensures)
+
+returns-3 : tie.Need-returns-3
+unfolding dayTime
+returns-3 c =
+    let p = c .before .before .before in
+    narrows-refused toDayTime (sym (rw (p .before .new .ensures) at (p .parse .ensures)) ∙ ap intervalOutcome (c .before .why .given .1))
+
+pub parse-interval-day-time-spec : {M : Type 1} → statement M
+parse-interval-day-time-spec =
+    tie.close
+    (tie.spec
+    new-requires
+    parse-requires
+    enum-known-interval
+    to-day-time-requires
+    enum-known-both
+    enum-told
+    enum-known-why
+    returns
+    returns-2
+    returns-3)

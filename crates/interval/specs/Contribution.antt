@@ -1,0 +1,78 @@
+-- What a component contributes: document 01, "Interval grammar", the table of units. A fraction goes to the count that the table names,
+-- cut toward zero, and no further. PostgreSQL 15, section 8.5.4, instead rounds fractions of a year to months, and spills those of a
+-- month into days and microseconds and those of a week into days. The limit n is the most digits behind a point. Assumes nothing.
+use mathlib.Core.Bool.{Bool}
+use mathlib.Core.List.{List, [], _∷_}
+use Prim.Native.Nat.{ℕ, _+_, _-_, _*_, _/_, _^_}
+use lib.IntN.{ℤ, pos}
+use lib.ListN.{length, take, drop}
+use Rattle.text.specs.Digits.{value, run}
+use Rattle.number.specs.Widths.{signed}
+use Rattle.interval.specs.Division.{negative, signLen}
+use Rattle.interval.specs.declared.Interval.{Interval}
+use Rattle.interval.specs.declared.IntervalUnit.{IntervalUnit}
+use Rattle.interval.specs.declared.IntervalUnit.the-variants.{Century, Decade, Year, Month, Week, Day, Hour, Minute, Second, Millisecond, Microsecond, Nanosecond}
+
+-- what an amount says: its sign, which is the fraction's too, its whole part, and its fraction times 10^n
+pub record Value : Type 0 where
+  pub neg : Bool
+  pub integer : ℕ
+  pub frac : ℕ
+
+-- one of them
+abbrev pub valued : Bool → ℕ → ℕ → Value
+valued m i f = record { neg = m; integer = i; frac = f }
+
+-- the fraction from the point on, times 10^n: k digits behind the point count 10^(n - k) each
+unfoldable pub fracOf : ℕ → List ℕ → ℕ
+fracOf n [] = 0
+fracOf n (b ∷ f) = value 0 f * 10 ^ (n - length f)
+
+-- what is behind the sign: digits as far as they go, then perhaps a point and the fraction
+unfoldable pub unsignedOf : ℕ → Bool → List ℕ → Value
+unsignedOf n m t = valued m (value 0 (take (run t) t)) (fracOf n (drop (run t) t))
+
+-- what an amount says; `Rattle.interval.proofs.AmountLaws` has it for each form of the grammar (`whole-says` and so on)
+unfoldable pub amountOf : ℕ → List ℕ → Value
+amountOf n a = unsignedOf n (negative a) (drop (signLen (negative a)) a)
+
+-- the three counts, each apart
+pub record Counts : Type 0 where
+  pub months : ℤ
+  pub days : ℤ
+  pub nanos : ℤ
+
+-- some of them
+abbrev pub counts : ℤ → ℤ → ℤ → Counts
+counts m d n = record { months = m; days = d; nanos = n }
+
+-- the counts that the code's `Interval` holds
+abbrev pub countsOf : Interval → Counts
+countsOf i = counts (i .months .0) (i .days .0) (i .nanos .0)
+
+-- the amount times k, cut toward zero
+unfoldable pub times : ℕ → ℕ → Value → ℤ
+times n k a = signed (a .neg) ((a .integer * 10 ^ n + a .frac) * k / 10 ^ n)
+
+-- its whole part times k
+unfoldable pub wholeTimes : ℕ → Value → ℤ
+wholeTimes k a = signed (a .neg) (a .integer * k)
+
+-- its fraction times k, cut toward zero
+unfoldable pub fracTimes : ℕ → ℕ → Value → ℤ
+fracTimes n k a = signed (a .neg) (a .frac * k / 10 ^ n)
+
+-- document 01's table
+unfoldable pub contribution : ℕ → IntervalUnit → Value → Counts
+contribution n Century a = counts (times n 1200 a) (pos 0) (pos 0)
+contribution n Decade a = counts (times n 120 a) (pos 0) (pos 0)
+contribution n Year a = counts (times n 12 a) (pos 0) (pos 0)
+contribution n Month a = counts (wholeTimes 1 a) (fracTimes n 30 a) (pos 0)
+contribution n Week a = counts (pos 0) (wholeTimes 7 a) (fracTimes n 604_800_000_000_000 a)
+contribution n Day a = counts (pos 0) (wholeTimes 1 a) (fracTimes n 86_400_000_000_000 a)
+contribution n Hour a = counts (pos 0) (pos 0) (times n 3_600_000_000_000 a)
+contribution n Minute a = counts (pos 0) (pos 0) (times n 60_000_000_000 a)
+contribution n Second a = counts (pos 0) (pos 0) (times n 1_000_000_000 a)
+contribution n Millisecond a = counts (pos 0) (pos 0) (times n 1_000_000 a)
+contribution n Microsecond a = counts (pos 0) (pos 0) (times n 1_000 a)
+contribution n Nanosecond a = counts (pos 0) (pos 0) (times n 1 a)

@@ -1,0 +1,86 @@
+// The components of a text, added up as they are read: Rust's `parse_interval_components` and the fold of `Interval::parse`, in one pass.
+use crate::Days;
+use crate::Interval;
+use crate::IntervalParseConfig;
+use crate::IntervalRead;
+use crate::IntervalUnit;
+use crate::Months;
+use crate::Nanos;
+use crate::Piece;
+use crate::Sum;
+use crate::UnitRead;
+use crate::split;
+use refusal::Refusal;
+ghost use mathlib.Core.Path.{_≡_};
+ghost use mathlib.Core.Bool.{cond};
+ghost use Rattle.refusal.specs.Outcome.{refused};
+ghost use Rattle.interval.specs.Grammar.{precision};
+ghost use Rattle.interval.specs.Answer.{orElse, onTotals, monthDayNano};
+ghost use Rattle.interval.specs.Read.{unitRead, sumOf, intervalOutcome};
+
+impl UnitRead {
+    // Rust's `IntervalUnit::from_str_or_config`.
+    pub fn or_default(self, default_unit: IntervalUnit) -> IntervalUnit
+        ensures { λ r. ⌜ r ≡ orElse «default_unit» (unitRead self) ⌝ }
+    {
+        match self {
+            UnitRead::Unit(unit) => unit,
+            UnitRead::None => default_unit,
+        }
+    }
+}
+
+// The answer where the text is read to its end: a repeated unit comes before a count that does not fit.
+pub fn settled(repeated: bool, total: Sum) -> IntervalRead
+    ensures { λ r. ⌜ intervalOutcome r ≡ cond repeated (refused 9) (onTotals (sumOf total)) ⌝ }
+{
+    if repeated {
+        return IntervalRead::Refused(Refusal::RepeatedUnit);
+    }
+    match total {
+        Sum::Fits(interval) => IntervalRead::Value(interval),
+        Sum::Over => IntervalRead::Refused(Refusal::Overflow),
+    }
+}
+
+// Units are marked as they come, so that one that comes again is told only where the whole text has been read.
+pub fn parse_interval_components(value: &[u8], default_unit: IntervalUnit) -> IntervalRead
+    ensures { λ r. ⌜ intervalOutcome r ≡ monthDayNano precision «default_unit» (now (value .entry)) ⌝ }
+{
+    let mut at: usize = 0;
+    let mut seen = [false; 12];
+    let mut repeated = false;
+    let mut total = Sum::Fits(Interval {
+        months: Months(0),
+        days: Days(0),
+        nanos: Nanos(0),
+    });
+    loop {
+        match split::split_interval_component(value, at) {
+            Piece::Bad => {
+                return IntervalRead::Refused(Refusal::Interval.of(value));
+            }
+            Piece::Last(amount, word) => {
+                let unit = word.or_default(default_unit);
+                let k = unit.mark();
+                return settled(repeated | seen[k], total.add(amount, unit));
+            }
+            Piece::More(amount, unit, next) => {
+                let k = unit.mark();
+                repeated = repeated | seen[k];
+                seen[k] = true;
+                total = total.add(amount, unit);
+                at = next;
+            }
+        }
+    }
+}
+
+impl Interval {
+    pub fn parse(value: &[u8], config: IntervalParseConfig) -> IntervalRead
+        ensures { λ r. ⌜ intervalOutcome r ≡ monthDayNano precision (config .«default_unit») (now (value .entry)) ⌝ }
+    {
+        let default_unit = config.default_unit;
+        parse_interval_components(value, default_unit)
+    }
+}
