@@ -21,7 +21,9 @@ fn nanos(s: &[u8]) -> Read64
 {
     match string_to_timestamp_nanos(s) {
         Read64::Value(z) => Read64::Value(z),
-        Read64::Refused(_) => string_to_timestamp_nanos(text::trim::trim_pre_and_post_whitespace(s)),
+        Read64::Refused(_) => string_to_timestamp_nanos(text::trim::trim_pre_and_post_whitespace(
+            s,
+        )),
     }
 }
 

@@ -48,9 +48,9 @@ year-most (hyphens y m d i p q r e k) l = omega (arith, figures-most p)
 year-most (signed s y m d {z} g h e n f p u q v) l =
     let w = year-size n s y refl (is-sign g) in
     let k : value 0 y < 100000 =
-        five y (value 0 y) h
-        (omega (arith, length-append y (0x2D ∷ (m ++ (0x2D ∷ d))), length-append m (0x2D ∷ d), number-size p, number-size q))
-        (figures-most (figures {t = y} refl e)) in
+    five y (value 0 y) h
+    (omega (arith, length-append y (0x2D ∷ (m ++ (0x2D ∷ d))), length-append m (0x2D ∷ d), number-size p, number-size q))
+    (figures-most (figures {t = y} refl e)) in
     omega (arith, w)
 
 -- within 37,400,000 days

@@ -9,7 +9,7 @@ use Rattle.text.specs.Digits.{value, run}
 use Rattle.text.specs.Utf8.{encode, wellFormed}
 use Rattle.text.specs.WhiteSpace.{white1, white2, white3, whiteOf}
 use Rattle.refusal.specs.Outcome.{Outcome, accepted, refused}
-use Rattle.interval.specs.Quoted.{bytes}
+use Rattle.text.specs.Quoted.{bytes}
 use Rattle.interval.specs.Units.{rank, spellings, same, oneOf, find, low, kelvin, lower, unitOf, present, isUnit}
 use Rattle.interval.specs.Grammar.{precision, wholeFits}
 use Rattle.interval.specs.Division.{negative, signLen, pointLen, digitsLen, amountLen, wordLen, endStep, unitStep, restStep, amountStep, step, before, then, divideBy, divide}

@@ -18,7 +18,7 @@ use Rattle.text.specs.Utf8.{scalar, encode, Utf8, scalar-then}
 use Rattle.text.specs.WhiteSpace.{whiteSpace, White, white, white1, white2, white3, whiteOf, whiteLen}
 use Rattle.text.proofs.Bools.{and-left, and-right, or-cases, both-ways, by-test, within-is, within-under, within-over}
 use Rattle.text.proofs.WhiteAgrees.{found, measures}
-use Rattle.interval.specs.Quoted.{bytes}
+use Rattle.text.specs.Quoted.{bytes}
 use Rattle.interval.specs.Units.{Row, row, spellings, same, oneOf, find, low, kelvin, lower, unitOf, present, isUnit}
 use Rattle.interval.specs.Keys.{lowered}
 use Rattle.interval.specs.Grammar.{component}

@@ -9,7 +9,7 @@ use Prim.Native.String.{String}
 use lib.Dec.{eqb}
 use lib.ListN.{length, take, drop}
 use Rattle.text.specs.Digits.{within}
-use Rattle.interval.specs.Quoted.{bytes}
+use Rattle.text.specs.Quoted.{bytes}
 use Rattle.interval.specs.Units.{Row, row, low, kelvin, lower, unitOf}
 use Rattle.interval.specs.declared.IntervalUnit.{IntervalUnit}
 use Rattle.interval.specs.declared.Letter.{Letter}

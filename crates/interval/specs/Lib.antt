@@ -1,5 +1,4 @@
 -- What the contracts of `interval` cite.
-pub mod Quoted
 pub mod Units
 pub mod Grammar
 pub mod Division

@@ -8,7 +8,7 @@ use Prim.Native.Nat.{ℕ, _+_}
 use Prim.Native.String.{String}
 use lib.Dec.{eqb}
 use Rattle.text.specs.Digits.{within}
-use Rattle.interval.specs.Quoted.{bytes}
+use Rattle.text.specs.Quoted.{bytes}
 use Rattle.interval.specs.declared.IntervalUnit.{IntervalUnit}
 use Rattle.interval.specs.declared.IntervalUnit.the-variants.{Century, Decade, Year, Month, Week, Day, Hour, Minute, Second, Millisecond, Microsecond, Nanosecond}
 

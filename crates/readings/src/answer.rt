@@ -1,8 +1,21 @@
 // The answer of each reader.
+use crate::columns;
+use crate::intervals;
 use crate::line;
 use crate::show;
 
 pub fn of(name: &[u8], text: &[u8]) {
+    if columns::of(name, text) {
+        return;
+    }
+    if intervals::of(name, text) {
+        return;
+    }
+    ground(name, text);
+}
+
+// What the readers stand on.
+fn ground(name: &[u8], text: &[u8]) {
     if check::same(name, b"utf8") {
         show::yes_or_no(text::utf8::is_utf8(text));
         return;

@@ -1,6 +1,8 @@
 // Reads lines `READER TEXT` from standard input and writes each with its answer. In a text `\xHH` is a byte. An empty line and one
 // that begins with # are written as they are.
 mod answer;
+mod columns;
+mod intervals;
 mod line;
 mod show;
 

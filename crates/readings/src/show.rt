@@ -50,6 +50,25 @@ pub fn day(r: calendar::Day) {
     }
 }
 
+pub fn read64(r: refusal::Read64) {
+    match r {
+        refusal::Read64::Value(z) => signed(z),
+        refusal::Read64::Refused(why) => refused(why),
+    }
+}
+
+pub fn read32(r: refusal::Read32) {
+    match r {
+        refusal::Read32::Value(z) => signed32(z),
+        refusal::Read32::Refused(why) => refused(why),
+    }
+}
+
+pub fn refused(why: refusal::Refusal) {
+    bytes(b"refused ");
+    signed(why.number() as i64);
+}
+
 // A text between bars, bytes that do not print as `\xHH`.
 pub fn text(s: &[u8]) {
     bytes(b"|");
