@@ -2,7 +2,7 @@
 -- back. A year is any whole number: year 0 comes before year 1, and year -1 before year 0. A month or a day that the calendar does
 -- not have makes no date. Assumes nothing.
 use mathlib.Core.Bool.{Bool, true, false, cond, not, _&&_, _||_}
-use mathlib.Core.List.{List, [], _∷_}
+use mathlib.Core.List.{[], _∷_}
 use mathlib.Core.Option.{Option, none, some}
 use Prim.Native.Nat.{ℕ, zero, suc, _+_, _-_, _%_}
 use lib.Dec.{eqb, leb}

@@ -1,5 +1,5 @@
 -- Answers put together: of a text as given and trimmed, divided by a unit, as a time or an integer. Assumes nothing.
-use mathlib.Core.Path.{_≡_, refl, sym, ap, _∙_}
+use mathlib.Core.Path.{_≡_, refl, ap, _∙_}
 use mathlib.Core.List.{List}
 use mathlib.Core.Bool.{true}
 use mathlib.Core.Option.{none, some}
@@ -7,17 +7,27 @@ use Prim.Native.Nat.{ℕ, suc}
 use native.Mathlib.Nat.{div-one}
 use lib.IntN.{ℤ, pos, negsuc, negℤ}
 use lib.Signed.{quotZ}
-use Rattle.refusal.specs.Outcome.{Outcome, accepted, refused}
+use mir.Syntax.{Width, w64}
+use mir.Val.{SFits}
+use mir.Facts.{toZ-ofZ}
+use Rattle.number.proofs.Ranges.{rd}
+use Rattle.refusal.specs.declared.Read64.{Read64}
+use Rattle.refusal.specs.Outcome.{Outcome, accepted, refused, outcome64}
 use Rattle.text.specs.Trim.{trimmed}
 use Rattle.number.specs.Decimal.{integer}
 use Rattle.time.specs.Answer.{timeNanos}
 use Rattle.column.specs.Columns.{orElse, retried, divided, asInteger, timeColumn}
 
+-- ---- a value, as a local reads it back
+
+pub back : {w : Width} {z : ℤ} {o : Outcome ℤ} → SFits w z → accepted z ≡ o → accepted (rd w z) ≡ o
+back f e = ap accepted (toZ-ofZ f) ∙ e
+
 -- ---- as given, then trimmed
 
 module _ (reader : List ℕ → Outcome ℤ) (t : List ℕ) where
-  pub as-given : {z : ℤ} → accepted z ≡ reader t → accepted z ≡ retried reader t
-  as-given e = rw (← e)
+  pub as-given : {w : Width} {z : ℤ} → SFits w z → accepted z ≡ reader t → accepted (rd w z) ≡ retried reader t
+  as-given f e = rw (← e) (back f refl)
 
   pub once-trimmed : {n : ℕ} {o : Outcome ℤ} → refused n ≡ reader t → o ≡ reader (trimmed t) → o ≡ retried reader t
   once-trimmed e q = rw (← e) q
@@ -32,20 +42,27 @@ pub whole : (o : Outcome ℤ) → divided 1 o ≡ o
 whole (accepted z) = ap accepted (by-one z)
 whole (refused n) = refl
 
+-- an answer in nanoseconds, divided by k, and a value n of it by the code, whose quotient is r
+abbrev pub perUnit : ℕ → Read64 → Outcome ℤ
+perUnit k r = divided k (outcome64 r)
+
+pub in-unit : (k : ℕ) {n r : ℤ} → SFits w64 n → SFits w64 r → r ≡ quotZ (rd w64 n) (pos k) → accepted (rd w64 r) ≡ divided k (accepted n)
+in-unit k f g e = back g (ap accepted (rw (toZ-ofZ f) at e))
+
 -- ---- a time, an integer, a time once trimmed
 
 module _ (k bits : ℕ) (t : List ℕ) where
   abbrev pub rest : Outcome ℤ
   rest = orElse (asInteger bits t) (divided k (timeNanos (trimmed t)))
 
-  pub a-time : {z : ℤ} → accepted z ≡ timeNanos t → accepted (quotZ z (pos k)) ≡ timeColumn k bits t
-  a-time e = rw (← e)
+  pub a-time : {z : ℤ} → SFits w64 z → accepted z ≡ timeNanos t → accepted (quotZ (rd w64 z) (pos k)) ≡ timeColumn k bits t
+  a-time f e = rw (toZ-ofZ f, ← e)
 
   pub no-time : {n : ℕ} {o : Outcome ℤ} → refused n ≡ timeNanos t → o ≡ rest → o ≡ timeColumn k bits t
   no-time e q = rw (← e) q
 
-  pub an-integer : {z : ℤ} → some z ≡ integer true bits t → accepted z ≡ rest
-  an-integer e = rw (← e)
+  pub an-integer : {z : ℤ} → SFits w64 z → some z ≡ integer true bits t → accepted (rd w64 z) ≡ rest
+  an-integer f e = rw (← e) (back f refl)
 
   pub no-integer : {o : Outcome ℤ} → none ≡ integer true bits t → o ≡ divided k (timeNanos (trimmed t)) → o ≡ rest
   no-integer e q = rw (← e) q

@@ -1,6 +1,6 @@
 -- The ten column types of document 01, "Dates and stamps" and "Time of day": each is its reader of the text as given, then of the trimmed
 -- text where document 01 has it, divided by the column's unit. Assumes nothing.
-use mathlib.Core.Bool.{Bool, true, cond}
+use mathlib.Core.Bool.{true, cond}
 use mathlib.Core.List.{List}
 use mathlib.Core.Option.{Option, none, some}
 use Prim.Native.Nat.{ℕ}

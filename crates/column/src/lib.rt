@@ -1,13 +1,13 @@
 // The `parse` of the ten column types. Each reads the text as given and then, where the Rust does, trimmed.
-use refusal::Refusal;
+use refusal::Read64;
 
 pub mod dates;
 pub mod stamps;
 pub mod times;
+mod units;
 
-// What a time column finds: a time, in nanoseconds, or an integer of its width.
+// What a time column finds: a time in nanoseconds or its refusal, or an integer of its width.
 pub enum Found {
-    Nanos(i64),
+    Time(Read64),
     Integer(i64),
-    Refused(Refusal),
 }

@@ -1,5 +1,5 @@
 // Timestamp columns: nanoseconds divided toward zero.
-use number::quotient;
+use crate::units;
 use refusal::Read64;
 use timestamp::stamp::string_to_timestamp_nanos;
 ghost use mathlib.Core.Path.{_≡_};
@@ -39,10 +39,7 @@ impl TimestampMicrosecondType {
     pub fn parse(s: &[u8]) -> Read64
         ensures { λ r. ⌜ outcome64 r ≡ column TimestampMicrosecond (now (s .entry)) ⌝ }
     {
-        match nanos(s) {
-            Read64::Value(z) => Read64::Value(quotient::to_micros(z)),
-            Read64::Refused(why) => Read64::Refused(why),
-        }
+        units::micros(nanos(s))
     }
 }
 
@@ -50,10 +47,7 @@ impl TimestampMillisecondType {
     pub fn parse(s: &[u8]) -> Read64
         ensures { λ r. ⌜ outcome64 r ≡ column TimestampMillisecond (now (s .entry)) ⌝ }
     {
-        match nanos(s) {
-            Read64::Value(z) => Read64::Value(quotient::to_millis(z)),
-            Read64::Refused(why) => Read64::Refused(why),
-        }
+        units::millis(nanos(s))
     }
 }
 
@@ -61,9 +55,6 @@ impl TimestampSecondType {
     pub fn parse(s: &[u8]) -> Read64
         ensures { λ r. ⌜ outcome64 r ≡ column TimestampSecond (now (s .entry)) ⌝ }
     {
-        match nanos(s) {
-            Read64::Value(z) => Read64::Value(quotient::to_seconds(z)),
-            Read64::Refused(why) => Read64::Refused(why),
-        }
+        units::seconds(nanos(s))
     }
 }

@@ -1,9 +1,9 @@
 // Time columns: a time, its nanoseconds divided toward zero; failing a time, the text as given as an integer, taken undivided.
 use crate::Found;
+use crate::units;
 use number::Int32;
 use number::Int64;
 use number::parse;
-use number::quotient;
 use refusal::Read32;
 use refusal::Read64;
 use text::trim::trim_pre_and_post_whitespace;
@@ -31,7 +31,7 @@ fn found(s: &[u8], wide: bool) -> Found
     ensures { λ r. ⌜ Finds r (λ k. timeColumn k (bitsOf wide) (now (s .entry))) ⌝ }
 {
     match string_to_time_nanoseconds(s) {
-        Read64::Value(n) => Found::Nanos(n),
+        Read64::Value(n) => Found::Time(Read64::Value(n)),
         Read64::Refused(_) => integer_or_trimmed(s, wide),
     }
 }
@@ -41,16 +41,7 @@ fn integer_or_trimmed(s: &[u8], wide: bool) -> Found
 {
     match parse_integer(s, wide) {
         Int64::Some(z) => Found::Integer(z),
-        Int64::None => trimmed_time(s),
-    }
-}
-
-fn trimmed_time(s: &[u8]) -> Found
-    ensures { λ r. ⌜ Finds r (λ k. divided k (timeNanos (trimmed (now (s .entry))))) ⌝ }
-{
-    match string_to_time_nanoseconds(trim_pre_and_post_whitespace(s)) {
-        Read64::Value(n) => Found::Nanos(n),
-        Read64::Refused(why) => Found::Refused(why),
+        Int64::None => Found::Time(string_to_time_nanoseconds(trim_pre_and_post_whitespace(s))),
     }
 }
 
@@ -71,9 +62,8 @@ impl Time64NanosecondType {
         ensures { λ r. ⌜ outcome64 r ≡ column Time64Nanosecond (now (s .entry)) ⌝ }
     {
         match found(s, true) {
-            Found::Nanos(n) => Read64::Value(n),
+            Found::Time(nanos) => nanos,
             Found::Integer(z) => Read64::Value(z),
-            Found::Refused(why) => Read64::Refused(why),
         }
     }
 }
@@ -83,9 +73,8 @@ impl Time64MicrosecondType {
         ensures { λ r. ⌜ outcome64 r ≡ column Time64Microsecond (now (s .entry)) ⌝ }
     {
         match found(s, true) {
-            Found::Nanos(n) => Read64::Value(quotient::to_micros(n)),
+            Found::Time(nanos) => units::micros(nanos),
             Found::Integer(z) => Read64::Value(z),
-            Found::Refused(why) => Read64::Refused(why),
         }
     }
 }
@@ -95,9 +84,8 @@ impl Time32MillisecondType {
         ensures { λ r. ⌜ outcome32 r ≡ column Time32Millisecond (now (s .entry)) ⌝ }
     {
         match found(s, false) {
-            Found::Nanos(n) => Read32::Value(quotient::to_millis(n) as i32),
-            Found::Integer(z) => Read32::Value(z as i32),
-            Found::Refused(why) => Read32::Refused(why),
+            Found::Time(nanos) => units::narrowed(units::millis(nanos)),
+            Found::Integer(z) => units::narrowed(Read64::Value(z)),
         }
     }
 }
@@ -107,9 +95,8 @@ impl Time32SecondType {
         ensures { λ r. ⌜ outcome32 r ≡ column Time32Second (now (s .entry)) ⌝ }
     {
         match found(s, false) {
-            Found::Nanos(n) => Read32::Value(quotient::to_seconds(n) as i32),
-            Found::Integer(z) => Read32::Value(z as i32),
-            Found::Refused(why) => Read32::Refused(why),
+            Found::Time(nanos) => units::narrowed(units::seconds(nanos)),
+            Found::Integer(z) => units::narrowed(Read64::Value(z)),
         }
     }
 }

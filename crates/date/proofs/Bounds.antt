@@ -1,7 +1,7 @@
 -- How far the day of a text of at most 10 bytes lies from 1970-01-01. Assumes nothing.
 use mathlib.Core.Path.{_≡_, refl, ap, sym, _∙_}
 use mathlib.Core.Bool.{true, false, false≢true}
-use mathlib.Core.List.{List, [], _∷_, _++_}
+use mathlib.Core.List.{List, _∷_, _++_}
 use Prim.Native.Nat.{ℕ, _+_, _^_, _≤_, _<_}
 use native.Mathlib.Omega.{arith}
 use lib.Dec.{eqb}
@@ -14,7 +14,7 @@ use Rattle.number.proofs.Zed.{P, N, P-neg, N-neg}
 use Rattle.refusal.specs.Outcome.{accepted}
 use Rattle.text.specs.Digits.{value}
 use Rattle.text.proofs.Bools.{by-test}
-use Rattle.timestamp.specs.Grammar.{Figures, figures}
+use Rattle.timestamp.specs.Grammar.{figures}
 use Rattle.timestamp.proofs.Bounds.{figures-most}
 use Rattle.date.specs.Grammar.{DateText, compact, hyphens, signed, NamesDay, of-date, of-stamp}
 use Rattle.date.specs.Answer.{isSign, dayNamed}

@@ -1,8 +1,7 @@
 -- Trimming: blanks taken from either end one by one, and that what is computed is the trimmed text. Assumes nothing.
-use mathlib.Core.Path.{_≡_, refl, sym, ap, _∙_, subst}
-use mathlib.Core.Bool.{Bool, true, false, cond, _&&_}
-use mathlib.Core.Logic.{_↔_}
-use mathlib.Core.List.{List, [], _∷_, _++_, append-assoc, append-nil}
+use mathlib.Core.Path.{_≡_, refl, sym, ap, _∙_}
+use mathlib.Core.Bool.{true, false}
+use mathlib.Core.List.{List, [], _∷_, _++_}
 use Prim.Native.Nat.{ℕ, zero, suc, _+_, _-_, _≤_, _<_}
 use native.Mathlib.Nat.{not-suc-le-zero}
 use native.Mathlib.Omega.{arith}
@@ -10,9 +9,9 @@ use native.Mathlib.Numerals.{add-one, sub-one}
 use lib.ListN.{length, getD, take, drop, drop-of-length-le}
 use lib.Seq.{drop-cons, take-suc, take-length}
 use borrow.Author.Tests.{ne-eqb}
-use Rattle.text.specs.Digits.{isDigit, digitOf}
-use Rattle.text.specs.Trim.{blank, blanks, Trimmed, between, trimStart, before, trimEnd, trimmed}
-use Rattle.text.proofs.Bools.{and-left, and-right, by-test}
+use Rattle.text.specs.Digits.{digitOf}
+use Rattle.text.specs.Trim.{blank, blanks, trimStart, before, trimEnd, trimmed}
+use Rattle.text.proofs.Bools.{by-test}
 
 -- ---- from the start
 

@@ -8,7 +8,7 @@ use native.Mathlib.Nat.{le-refl, le-of-suc-le-suc, not-suc-le-zero}
 use native.Mathlib.Omega.{arith}
 use lib.Dec.{leb, ltb}
 use lib.ListN.{length}
-use borrow.Author.Tests.{lt-ltb, le-ltb, ltb-true, ltb-false, le-leb, lt-leb, leb-true, leb-false}
+use borrow.Author.Tests.{lt-ltb, le-ltb, ltb-true, ltb-false, le-leb, leb-true, leb-false}
 use Rattle.text.specs.Digits.{within}
 use Rattle.text.specs.declared.Follow.{Follow}
 use Rattle.text.specs.Utf8.{scalar, encode, Utf8, nothing, scalar-then, table, follows, wellFormed, utf8}

@@ -1,12 +1,9 @@
 -- The rows of Unicode's table 3-7, each found by the range of its first byte b. Assumes nothing.
 use mathlib.Core.Path.{_≡_}
-use mathlib.Core.Bool.{false}
-use mathlib.Core.List.{List, _∷_}
 use Prim.Native.Nat.{ℕ, _≤_, _<_}
 use native.Mathlib.Omega.{arith}
-use Rattle.text.specs.Utf8.{Row, row, table, follows}
+use Rattle.text.specs.Utf8.{table, follows}
 use Rattle.text.specs.declared.Follow.{Follow}
-use Rattle.text.specs.Digits.{within}
 use Rattle.text.proofs.Bools.{within-yes, within-under, within-over}
 
 abbrev pub bytes : (count low high : ℕ) → Follow

@@ -1,19 +1,19 @@
 -- White space characters by their bytes: `whiteLen` measures exactly the encodings of Unicode's White_Space. Assumes nothing.
-use mathlib.Core.Path.{_≡_, refl, sym, ap, _∙_, subst}
-use mathlib.Core.Bool.{Bool, true, false, cond, _&&_, _||_}
+use mathlib.Core.Path.{_≡_, refl, subst}
+use mathlib.Core.Bool.{Bool, true, false, _&&_, _||_}
 use mathlib.Core.Logic.{_⊎_, inl, inr, ⊎-elim}
 use mathlib.Core.List.{List, [], _∷_, _++_}
-use Prim.Native.Nat.{ℕ, _+_, _*_, _-_, _/_, _%_, _≤_, _<_}
+use Prim.Native.Nat.{ℕ, _+_, _-_, _/_, _%_, _≤_, _<_}
 use native.Mathlib.Omega.{arith}
 use native.Mathlib.Nat.{add-zero}
-use lib.Dec.{leb, ltb, eqb}
+use lib.Dec.{eqb}
 use lib.ListN.{length, getD, take, drop}
 use lib.Seq.{getD-drop}
-use borrow.Author.Tests.{eqb-true, ne-eqb, lt-ltb, le-ltb, leb-true, leb-false}
+use borrow.Author.Tests.{eqb-true, ne-eqb, lt-ltb, le-ltb}
 use Rattle.text.specs.Digits.{within}
 use Rattle.text.specs.Utf8.{encode}
 use Rattle.text.specs.WhiteSpace.{whiteSpace, White, white, white1, white2, white3, whiteOf, whiteLen}
-use Rattle.text.proofs.Bools.{and-left, and-right, and-false, or-cases, by-test, both-ways, within-yes, within-under, within-over, within-is}
+use Rattle.text.proofs.Bools.{and-left, and-right, and-false, or-cases, by-test, within-yes, within-over, within-is}
 
 -- the three bytes from a place on
 pub at-place : (s : List ℕ) (at : ℕ) → whiteLen (drop at s) ≡ whiteOf (getD s at 0) (getD s (at + 1) 0) (getD s (at + 2) 0)

@@ -1,7 +1,7 @@
 -- Digits of a text. A text is the list of its bytes. Assumes nothing.
-use mathlib.Core.Bool.{Bool, true, false, cond, _&&_}
+use mathlib.Core.Bool.{Bool, true, cond, _&&_}
 use mathlib.Core.List.{List, [], _∷_}
-use Prim.Native.Nat.{ℕ, zero, suc, _+_, _*_, _-_, _%_}
+use Prim.Native.Nat.{ℕ, suc, _+_, _*_, _-_, _%_}
 use lib.Dec.{leb}
 use lib.ListN.{getD}
 

@@ -3,7 +3,6 @@
 -- more digits; then perhaps a space and AM or PM in any case. Assumes nothing.
 use mathlib.Core.Path.{_≡_}
 use mathlib.Core.Bool.{true}
-use mathlib.Core.Logic.{_⊎_}
 use mathlib.Core.List.{List, [], _∷_, _++_}
 use Prim.Native.Nat.{ℕ, _+_, _%_, _≤_}
 use lib.IntN.{ℤ, pos}

@@ -2,16 +2,16 @@
 -- it has at most one reading. Assumes nothing.
 use mathlib.Core.Path.{_≡_, refl, sym, ap, _∙_, subst}
 use mathlib.Core.Bool.{Bool, true, false, not, _&&_, _||_, false≢true}
-use mathlib.Core.Logic.{_⊎_, inl, inr, ⊎-elim, _↔_}
+use mathlib.Core.Logic.{_⊎_, inr, ⊎-elim, _↔_}
 use mathlib.Core.List.{List, [], _∷_, _++_, append-nil}
 use mathlib.Core.Option.{Option, none, some}
-use Prim.Native.Nat.{ℕ, suc, _+_, _*_, _<_}
+use Prim.Native.Nat.{ℕ, _+_, _*_, _<_}
 use native.Mathlib.Omega.{arith}
 use lib.Dec.{eqb, lit<}
 use lib.ListN.{length, getD, take, drop, length-append, take-append-drop, drop-of-length-le}
 use lib.Seq.{take-append-seam, drop-append-seam, drop-drop, drop-cons, getD-at}
 use lib.IntN.{ℤ, pos}
-use borrow.Author.Tests.{ne-eqb, eqb-true, eqb-false, not-true}
+use borrow.Author.Tests.{ne-eqb, eqb-true, eqb-false}
 use Rattle.calendar.specs.Calendar.{civil}
 use Rattle.number.specs.Widths.{inSigned}
 use Rattle.refusal.specs.Outcome.{Outcome, accepted, refused, andThen}
@@ -21,7 +21,7 @@ use Rattle.text.proofs.Bools.{and-left, and-right, or-cases, by-test}
 use Rattle.text.proofs.Ascii.{ascii, ascii-nil, ascii-cons, ascii-append, ascii-digits, ascii-utf8}
 use Rattle.timestamp.specs.Clock.{Clock, clock, inRange, nanosFrom, nanosOf, sinceMidnight}
 use Rattle.timestamp.specs.Grammar.{Figures, figures, Ymd, FullDate, full-date, Secfrac, no-fraction, fraction, PartialTime, colons, basic, Separator, capital, small, space, Ending, none-given, capital-z, small-z, Stamp, date-alone, date-time}
-use Rattle.timestamp.specs.Answer.{isDate, dayOf, hasColons, isBasic, Timed, timedAt, timed, withFraction, afterSeconds, basicTime, timeOf, isEnding, isSeparator, Moment, moment, instant, atEnd, onTime, afterDate, onDate, plainMoment, datetime, inNanos, stampNanos}
+use Rattle.timestamp.specs.Answer.{isDate, dayOf, hasColons, isBasic, Timed, timedAt, timed, afterSeconds, timeOf, isEnding, isSeparator, Moment, moment, instant, onTime, afterDate, onDate, plainMoment, datetime, inNanos, stampNanos}
 use Rattle.timestamp.specs.Meaning.{Rfc3339, utc, Names, names, Reads, reads}
 use Rattle.timestamp.proofs.Shapes.{all-digits, by-two, by-four, two-figures, four-figures, two-value, four-value, inside, not-sign, run-all, run-digits, six, eight, ten}
 

@@ -13,7 +13,7 @@ use Rattle.calendar.proofs.Bounds.{Within, civil-most}
 use Rattle.text.specs.Digits.{isDigit, worth, digits, value}
 use Rattle.text.proofs.Bools.{and-left, and-right, within-is}
 use Rattle.timestamp.specs.Clock.{Clock, inRange, nanosFrom, nanosOf, sinceMidnight}
-use Rattle.timestamp.specs.Grammar.{Figures, figures, Ymd, FullDate, full-date, Secfrac, no-fraction, fraction, PartialTime, colons, basic, Stamp, date-alone, date-time}
+use Rattle.timestamp.specs.Grammar.{Figures, figures, Ymd, full-date, Secfrac, no-fraction, fraction, PartialTime, colons, basic, Stamp, date-alone, date-time}
 use Rattle.timestamp.specs.Answer.{Moment}
 use Rattle.timestamp.specs.Meaning.{Names, names}
 use Rattle.timestamp.proofs.Shapes.{all-digits}

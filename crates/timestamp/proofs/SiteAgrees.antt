@@ -1,26 +1,22 @@
 -- The site stamps of the relation are those that the computation accepts, with the same value, which is the plain reader's.
 -- Assumes nothing.
 use mathlib.Core.Path.{_≡_, refl, sym, ap, _∙_, subst}
-use mathlib.Core.Bool.{Bool, true, false, not, cond, _&&_, _||_, false≢true}
-use mathlib.Core.Logic.{_⊎_, inl, inr, ⊎-elim, _↔_}
+use mathlib.Core.Bool.{Bool, true, false, cond, _&&_, false≢true}
+use mathlib.Core.Logic.{inr, _↔_}
 use mathlib.Core.List.{List, [], _∷_, _++_, append-assoc, append-nil}
-use mathlib.Core.Option.{some}
-use Prim.Native.Nat.{ℕ, suc, _+_, _-_, _≤_, _<_}
+use Prim.Native.Nat.{ℕ, _+_, _-_, _≤_, _<_}
 use native.Mathlib.Omega.{arith}
-use native.Mathlib.Numerals.{sub-one}
 use lib.Dec.{eqb, leb}
 use lib.ListN.{length, getD, drop, length-append, List·getD-eq-default}
-use lib.Seq.{getD-append-add, getD-at, drop-at}
 use lib.IntN.{ℤ}
-use borrow.Author.Tests.{eqb-true, eqb-false, ne-eqb, eq-eqb, le-leb, leb-true}
-use Rattle.number.specs.Widths.{inSigned}
+use borrow.Author.Tests.{eqb-true, eq-eqb, le-leb, leb-true}
 use Rattle.refusal.specs.Outcome.{Outcome, accepted, refused, andThen}
-use Rattle.text.specs.Digits.{isDigit, digits, value, twoDigits, twoAt}
-use Rattle.text.proofs.Bools.{and-left, and-right, or-cases, by-test, both-ways}
-use Rattle.timestamp.specs.Clock.{Clock, clock, sinceMidnight}
-use Rattle.timestamp.specs.Grammar.{Figures, figures, Ymd, FullDate, Secfrac, no-fraction, fraction, PartialTime, colons, basic, Separator, capital, small, space, Ending, none-given, capital-z, small-z, Stamp, date-alone, date-time}
+use Rattle.text.specs.Digits.{isDigit, digits, value, twoAt}
+use Rattle.text.proofs.Bools.{and-left, and-right, by-test, both-ways}
+use Rattle.timestamp.specs.Clock.{Clock, sinceMidnight}
+use Rattle.timestamp.specs.Grammar.{Figures, Ymd, FullDate, Secfrac, no-fraction, fraction, PartialTime, colons, basic, capital, Ending, none-given, capital-z, small-z, Stamp, date-alone, date-time}
 use Rattle.timestamp.specs.Answer.{hasColons, moment, instant, stampNanos}
-use Rattle.timestamp.specs.Meaning.{Names, names, Reads, reads}
+use Rattle.timestamp.specs.Meaning.{names, Reads, reads}
 use Rattle.timestamp.specs.Site.{SiteStamp, site, SiteReads, site-reads, isLeap, isSite, siteNanos}
 use Rattle.timestamp.proofs.Shapes.{by-two, two-value, not-sign, size-of, last-of, seconds-end}
 use Rattle.timestamp.proofs.Agreement.{seam, date-size, clash, read-as}

@@ -1,10 +1,10 @@
 -- A time of day as a text writes it (RFC 3339, sections 5.6 and 5.7; ISO 8601). Document 01 widens the RFC: second 60 in any minute, and
 -- any number of fraction digits, of which nine count. Assumes nothing.
-use mathlib.Core.Bool.{Bool, true, false, cond, _&&_}
+use mathlib.Core.Bool.{Bool, _&&_}
 use mathlib.Core.List.{List, [], _∷_}
 use mathlib.Core.Option.{Option, none, some}
 use Prim.Native.Nat.{ℕ, _+_, _*_, _/_}
-use lib.Dec.{ltb, leb}
+use lib.Dec.{leb}
 use Rattle.text.specs.Digits.{worth}
 use Rattle.timestamp.specs.declared.NaiveTime.{NaiveTime}
 use Rattle.timestamp.specs.declared.Time.{Time}

@@ -10,14 +10,13 @@ use refusal::Read64;
 use refusal::Refusal;
 use text::digits::digit;
 ghost use mathlib.Core.Path.{_≡_};
-ghost use mathlib.Core.Bool.{cond};
 ghost use Prim.Native.Nat.{_≤_};
 ghost use lib.ListN.{length, drop};
 ghost use lib.IntN.{pos, _+ℤ_, _*ℤ_};
 ghost use Rattle.number.specs.Widths.{fit, int64};
 ghost use Rattle.refusal.specs.Outcome.{outcome64};
 ghost use Rattle.timestamp.specs.Clock.{nanosOfDay};
-ghost use Rattle.timestamp.specs.Answer.{isEnding, isSeparator, plainMoment, afterDate, atEnd, datetime, stampNanos, instant, inNanos, momentOf, momentIs};
+ghost use Rattle.timestamp.specs.Answer.{isEnding, plainMoment, afterDate, atEnd, datetime, stampNanos, instant, inNanos, momentOf, momentIs};
 
 // T, t and a space as digits: each byte less 48, wrapping.
 const CAPITAL_T: u8 = 36;

@@ -1,7 +1,6 @@
 -- `column::stamps::nanos` meets its contract, by the laws of a text as given and trimmed. Assumes nothing.
 use mathlib.Core.Path.{sym, ap, _∙_}
 use mir.Syntax.{w64}
-use mir.Facts.{toZ-ofZ}
 use Rattle.refusal.specs.Outcome.{outcome64}
 use Rattle.timestamp.specs.Answer.{stampNanos}
 use Rattle.column.proofs.Outcomes.{as-given, once-trimmed}
@@ -27,17 +26,12 @@ string-to-timestamp-nanos-requires-2 c κs = search needs
 returns : tie.Need-returns
 returns c =
     let x = c .before in
-    let p = x .before .before in
-    rw (toZ-ofZ {w = w64} {z = x .z .given .0 .0} (record { sfits = c .known-told .given .0 .1 }))
-    (as-given stampNanos (p .before .before .args .s .now) (sym (ap outcome64 (x .z .given .1)) ∙ p .string-to-timestamp-nanos .ensures))
+    as-given stampNanos (x .before .before .before .before .args .s .now) {w = w64} {z = x .z .given .0 .0} (record { sfits = c .known-told .given .0 .1 }) (sym (ap outcome64 (x .z .given .1)) ∙ x .before .before .string-to-timestamp-nanos .ensures)
 
 returns-2 : tie.Need-returns-2
 returns-2 c =
-    let w = c .before .before in
-    let p = w .before .before in
-    once-trimmed stampNanos (p .before .before .args .s .now)
-    (sym (ap outcome64 (w .enum-told .given .1)) ∙ p .string-to-timestamp-nanos .ensures)
-    (c .string-to-timestamp-nanos2 .ensures ∙ ap stampNanos (c .before .trim-pre-and-post-whitespace .ensures))
+    let x = c .before .before in
+    once-trimmed stampNanos (x .before .before .before .before .args .s .now) (sym (ap outcome64 (x .enum-told .given .1)) ∙ x .before .before .string-to-timestamp-nanos .ensures) (c .string-to-timestamp-nanos2 .ensures ∙ ap stampNanos (c .before .trim-pre-and-post-whitespace .ensures))
 
 pub nanos-spec : {M : Type 1} → statement M
 nanos-spec =

@@ -1,7 +1,5 @@
 -- `column::times::found` meets its contract, by the laws of a time column. Assumes nothing.
 use mathlib.Core.Path.{sym, ap, _∙_}
-use mir.Syntax.{w64}
-use mir.Facts.{toZ-ofZ}
 use Rattle.refusal.specs.Outcome.{outcome64}
 use Rattle.column.specs.Found.{bitsOf}
 use Rattle.column.proofs.Outcomes.{a-time, no-time}
@@ -26,15 +24,14 @@ returns c k =
     let x = c .before in
     let p = x .before .before in
     let a = p .before .before .args in
-    rw (toZ-ofZ {w = w64} {z = x .n .given .0 .0} (record { sfits = c .known-told .given .0 .1 }))
-    (a-time k (bitsOf (a .wide)) (a .s .now) (sym (ap outcome64 (x .n .given .1)) ∙ p .string-to-time-nanoseconds .ensures))
+    a-time k (bitsOf (a .wide)) (a .s .now) {z = x .n .given .0 .0} (record { sfits = c .known-told .given .0 .1 }) (sym (ap outcome64 (x .n .given .1)) ∙ p .string-to-time-nanoseconds .ensures)
 
 returns-2 : tie.Need-returns-2
 returns-2 c k =
-    let w = c .before in
-    let p = w .before .before in
+    let x = c .before in
+    let p = x .before .before in
     let a = p .before .before .args in
-    no-time k (bitsOf (a .wide)) (a .s .now) (sym (ap outcome64 (w .enum-told .given .1)) ∙ p .string-to-time-nanoseconds .ensures) (c .integer-or-trimmed .ensures k)
+    no-time k (bitsOf (a .wide)) (a .s .now) (sym (ap outcome64 (x .enum-told .given .1)) ∙ p .string-to-time-nanoseconds .ensures) (c .integer-or-trimmed .ensures k)
 
 pub found-spec : {M : Type 1} → statement M
 found-spec =

@@ -1,8 +1,8 @@
 -- `column::times::integer_or_trimmed` meets its contract, by the laws of a time column. Assumes nothing.
 use mathlib.Core.Path.{sym, ap, _∙_}
-use mir.Syntax.{w64}
-use mir.Facts.{toZ-ofZ}
 use Rattle.number.specs.Widths.{int64}
+use Rattle.time.specs.Answer.{timeNanos}
+use Rattle.column.specs.Columns.{divided}
 use Rattle.column.specs.Found.{bitsOf}
 use Rattle.column.proofs.Outcomes.{an-integer, no-integer}
 use borrow.Author.Needs.{needs}
@@ -18,23 +18,26 @@ enum-known-z c = search needs
 enum-told : tie.Need-enum-told
 enum-told c = search needs
 
-trimmed-time-requires : tie.Need-trimmed-time-requires
-trimmed-time-requires c κs = search needs
+trim-pre-and-post-whitespace-requires : tie.Need-trim-pre-and-post-whitespace-requires
+trim-pre-and-post-whitespace-requires c κs = search needs
+
+string-to-time-nanoseconds-requires : tie.Need-string-to-time-nanoseconds-requires
+string-to-time-nanoseconds-requires c κs = search needs
 
 returns : tie.Need-returns
 returns c k =
     let x = c .before in
     let p = x .before .before in
     let a = p .before .before .args in
-    rw (toZ-ofZ {w = w64} {z = x .z .given .0 .0} (record { sfits = c .known-told .given .0 .1 }))
-    (an-integer k (bitsOf (a .wide)) (a .s .now) (sym (ap int64 (x .z .given .1)) ∙ p .parse-integer .ensures))
+    an-integer k (bitsOf (a .wide)) (a .s .now) {z = x .z .given .0 .0} (record { sfits = c .known-told .given .0 .1 }) (sym (ap int64 (x .z .given .1)) ∙ p .parse-integer .ensures)
 
 returns-2 : tie.Need-returns-2
 returns-2 c k =
-    let w = c .before in
-    let p = w .before .before in
+    let x = c .before .before in
+    let p = x .before .before in
     let a = p .before .before .args in
-    no-integer k (bitsOf (a .wide)) (a .s .now) (sym (ap int64 (w .enum-told .given .1)) ∙ p .parse-integer .ensures) (c .trimmed-time .ensures k)
+    no-integer k (bitsOf (a .wide)) (a .s .now) (sym (ap int64 (x .enum-told .given .1)) ∙ p .parse-integer .ensures)
+    (ap (divided k) (c .string-to-time-nanoseconds .ensures ∙ ap timeNanos (c .before .trim-pre-and-post-whitespace .ensures)))
 
 pub integer-or-trimmed-spec : {M : Type 1} → statement M
 integer-or-trimmed-spec =
@@ -43,6 +46,7 @@ integer-or-trimmed-spec =
     parse-integer-requires
     enum-known-z
     enum-told
-    trimmed-time-requires
+    trim-pre-and-post-whitespace-requires
+    string-to-time-nanoseconds-requires
     returns
     returns-2)

@@ -1,5 +1,4 @@
 -- `timestamp::site::is_site` meets its contract, by the laws of a site stamp's tests. Assumes nothing.
-use mathlib.Core.Path.{_≡_}
 use Rattle.timestamp.proofs.SiteTests.{site-test, too-short}
 use borrow.Author.Needs.{needs}
 use Rattle.timestamp.proofs.site.is_site.Statement.{statement}

@@ -1,7 +1,6 @@
 -- `column::dates::Date32Type::parse` meets its contract, by the laws of a text as given and trimmed. Assumes nothing.
 use mathlib.Core.Path.{sym, ap, _∙_}
 use mir.Syntax.{w32}
-use mir.Facts.{toZ-ofZ}
 use Rattle.date.specs.Answer.{dateDays}
 use Rattle.refusal.specs.Outcome.{outcome32}
 use Rattle.column.proofs.Outcomes.{as-given, once-trimmed}
@@ -27,17 +26,12 @@ parse-date-to-days-requires-2 c κs = search needs
 returns : tie.Need-returns
 returns c =
     let x = c .before in
-    let p = x .before .before in
-    rw (toZ-ofZ {w = w32} {z = x .z .given .0 .0} (record { sfits = c .known-told .given .0 .1 }))
-    (as-given dateDays (p .before .before .args .s .now) (sym (ap outcome32 (x .z .given .1)) ∙ p .parse-date-to-days .ensures))
+    as-given dateDays (x .before .before .before .before .args .s .now) {w = w32} {z = x .z .given .0 .0} (record { sfits = c .known-told .given .0 .1 }) (sym (ap outcome32 (x .z .given .1)) ∙ x .before .before .parse-date-to-days .ensures)
 
 returns-2 : tie.Need-returns-2
 returns-2 c =
-    let w = c .before .before in
-    let p = w .before .before in
-    once-trimmed dateDays (p .before .before .args .s .now)
-    (sym (ap outcome32 (w .enum-told .given .1)) ∙ p .parse-date-to-days .ensures)
-    (c .parse-date-to-days2 .ensures ∙ ap dateDays (c .before .trim-pre-and-post-whitespace .ensures))
+    let x = c .before .before in
+    once-trimmed dateDays (x .before .before .before .before .args .s .now) (sym (ap outcome32 (x .enum-told .given .1)) ∙ x .before .before .parse-date-to-days .ensures) (c .parse-date-to-days2 .ensures ∙ ap dateDays (c .before .trim-pre-and-post-whitespace .ensures))
 
 pub parse-spec : {M : Type 1} → statement M
 parse-spec =

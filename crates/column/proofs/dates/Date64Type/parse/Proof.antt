@@ -1,5 +1,4 @@
 -- `column::dates::Date64Type::parse` meets its contract, by the length of the text. Assumes nothing.
-use mathlib.Core.Path.{_∙_}
 use lib.ListN.{length}
 use borrow.Author.Tests.{le-leb, lt-leb}
 use borrow.Author.Needs.{needs}
