@@ -197,13 +197,13 @@ impl Interval {
 }
 
 impl Sum {
-    // Once a count did not fit, none does.
-    pub(crate) fn add(self, amount: IntervalAmount, unit: IntervalUnit) -> Sum
-        requires { ⌜ natAbs (amount .frac) < 10 ^ precision ⌝ }
-        ensures { λ r. ⌜ ((v : Value) → amount ≡ amountFrom v → sumOf r ≡ onAdded (sumOf self) (contribution precision unit v)) ⌝ }
+    // Once a count did not fit, none does. The amount comes as its two numbers, which stay in registers.
+    pub(crate) fn add(self, integer: i64, frac: i64, unit: IntervalUnit) -> Sum
+        requires { ⌜ natAbs frac < 10 ^ precision ⌝ }
+        ensures { λ r. ⌜ ((v : Value) → integer ≡ signed (v .neg) (v .integer) → frac ≡ signed (v .neg) (v .frac) → sumOf r ≡ onAdded (sumOf self) (contribution precision unit v)) ⌝ }
     {
         match self {
-            Sum::Fits(total) => total.add(amount, unit),
+            Sum::Fits(total) => total.add(IntervalAmount { integer, frac }, unit),
             Sum::Over => Sum::Over,
         }
     }

@@ -7,6 +7,7 @@ ghost use Rattle.refusal.specs.Outcome.{outcome32};
 ghost use Rattle.interval.specs.Grammar.{precision};
 ghost use Rattle.interval.specs.Answer.{monthDayNano, plainMonthDayNano, yearMonth, dayTime};
 ghost use Rattle.interval.specs.Read.{intervalOutcome, dayTimeOutcome};
+
 mod amount;
 mod components;
 mod contributions;
@@ -162,7 +163,10 @@ pub fn parse_interval_day_time(value: &[u8]) -> DayTimeRead
     }
 }
 
-pub fn parse_interval_month_day_nano_config(value: &[u8], config: IntervalParseConfig) -> IntervalRead
+pub fn parse_interval_month_day_nano_config(
+    value: &[u8],
+    config: IntervalParseConfig,
+) -> IntervalRead
     ensures { λ r. ⌜ intervalOutcome r ≡ monthDayNano precision (config .«default_unit») (now (value .entry)) ⌝ }
 {
     Interval::parse(value, config)

@@ -61,10 +61,7 @@ pub fn letter_of(b: u8, c: u8, d: u8) -> Letter
         };
     }
     if (b == 0xE2) & ((c == 0x84) & (d == 0xAA)) {
-        return Letter {
-            code: 11,
-            width: 3,
-        };
+        return Letter { code: 11, width: 3 };
     }
     Letter { code: 0, width: 1 }
 }
@@ -108,49 +105,39 @@ pub fn unit_of_key(key: u64) -> UnitRead
             UnitRead::Unit(IntervalUnit::Century)
         }
         // dec, decs, decade, decades
-        4259 | 136307 | 139560069 | 4465922227 => {
-            UnitRead::Unit(IntervalUnit::Decade)
-        }
+        4259 | 136307 | 139560069 | 4465922227 => { UnitRead::Unit(IntervalUnit::Decade) }
         // y, yr, yrs, year, years
-        25 | 818 | 26195 | 824370 | 26379859 => {
-            UnitRead::Unit(IntervalUnit::Year)
-        }
+        25 | 818 | 26195 | 824370 | 26379859 => { UnitRead::Unit(IntervalUnit::Year) }
         // mon, mons, month, months
-        13806 | 441811 | 14137992 | 452415763 => {
-            UnitRead::Unit(IntervalUnit::Month)
-        }
+        13806 | 441811 | 14137992 | 452415763 => { UnitRead::Unit(IntervalUnit::Month) }
         // w, week, weeks
-        23 | 758955 | 24286579 => {
-            UnitRead::Unit(IntervalUnit::Week)
-        }
+        23 | 758955 | 24286579 => { UnitRead::Unit(IntervalUnit::Week) }
         // d, day, days
-        4 | 4153 | 132915 => {
-            UnitRead::Unit(IntervalUnit::Day)
-        }
+        4 | 4153 | 132915 => { UnitRead::Unit(IntervalUnit::Day) }
         // h, hr, hrs, hour, hours
-        8 | 274 | 8787 | 278194 | 8902227 => {
-            UnitRead::Unit(IntervalUnit::Hour)
-        }
+        8 | 274 | 8787 | 278194 | 8902227 => { UnitRead::Unit(IntervalUnit::Hour) }
         // m, min, mins, minute, minutes
-        13 | 13614 | 435667 | 446125701 | 14276022451 => {
-            UnitRead::Unit(IntervalUnit::Minute)
-        }
+        13 | 13614 | 435667 | 446125701 | 14276022451 => { UnitRead::Unit(IntervalUnit::Minute) }
         // s, sec, secs, second, seconds
-        19 | 19619 | 627827 | 642891204 | 20572518547 => {
-            UnitRead::Unit(IntervalUnit::Second)
-        }
+        19 | 19619 | 627827 | 642891204 | 20572518547 => { UnitRead::Unit(IntervalUnit::Second) }
         // ms, msec, msecs, msecond, mseconds, millisecond, milliseconds
-        435 | 445603 | 14259315 | 14601534916 | 467249117331 | 14966974900714948 | 478943196822878355 => {
-            UnitRead::Unit(IntervalUnit::Millisecond)
-        }
+        435
+        | 445603
+        | 14259315
+        | 14601534916
+        | 467249117331
+        | 14966974900714948
+        | 478943196822878355 => { UnitRead::Unit(IntervalUnit::Millisecond) }
         // us, usec, usecs, usecond, useconds, microsecond, microseconds
-        691 | 707747 | 22647923 | 23191469508 | 742127024275 | 14957291896946116 | 478633340702275731 => {
-            UnitRead::Unit(IntervalUnit::Microsecond)
-        }
+        691
+        | 707747
+        | 22647923
+        | 23191469508
+        | 742127024275
+        | 14957291896946116
+        | 478633340702275731 => { UnitRead::Unit(IntervalUnit::Microsecond) }
         // nanosecond, nanoseconds
-        494178506227140 | 15813712199268499 => {
-            UnitRead::Unit(IntervalUnit::Nanosecond)
-        }
+        494178506227140 | 15813712199268499 => { UnitRead::Unit(IntervalUnit::Nanosecond) }
         _ => UnitRead::None,
     }
 }
