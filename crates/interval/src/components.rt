@@ -38,7 +38,16 @@ pub fn settled(repeated: bool, total: Sum) -> IntervalRead
         return IntervalRead::Refused(Refusal::RepeatedUnit);
     }
     match total {
-        Sum::Fits(interval) => IntervalRead::Value(interval),
+        Sum::Fits(interval) => {
+            let months = interval.months;
+            let days = interval.days;
+            let nanos = interval.nanos;
+            IntervalRead::Value(Interval {
+                months: Months(months.0),
+                days: Days(days.0),
+                nanos: Nanos(nanos.0),
+            })
+        }
         Sum::Over => IntervalRead::Refused(Refusal::Overflow),
     }
 }
