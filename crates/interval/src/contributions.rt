@@ -189,10 +189,10 @@ impl Interval {
         requires { ⌜ natAbs (amount .frac) < 10 ^ precision ⌝ }
         ensures { λ r. ⌜ ((v : Value) → amount ≡ amountFrom v → sumOf r ≡ added (countsOf self) (contribution precision unit v)) ⌝ }
     {
-        match contribution(amount, unit) {
-            Sum::Fits(more) => self.plus(more),
-            Sum::Over => Sum::Over,
-        }
+        let Sum::Fits(more) = contribution(amount, unit) else {
+            return Sum::Over;
+        };
+        self.plus(more)
     }
 }
 
