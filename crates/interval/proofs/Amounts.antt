@@ -1,6 +1,6 @@
 -- Amounts as the code reads them at a place: digits as a capped number, the whole part with its sign, the fraction. Assumes nothing.
-use mathlib.Core.Path.{_≡_, refl, sym, ap, _∙_}
-use mathlib.Core.Bool.{Bool, true, false, cond, false≢true}
+use mathlib.Core.Path.{_≡_, refl, sym, _∙_}
+use mathlib.Core.Bool.{Bool, true, false, cond}
 use mathlib.Core.List.{List, [], _∷_}
 use mathlib.Core.Option.{none, some, Option·none-ne-some}
 use Prim.Native.Nat.{ℕ, zero, suc, _+_, _-_, _*_, _^_, _≤_, _<_, min}
@@ -10,7 +10,7 @@ use native.Mathlib.Omega.{arith}
 use lib.Dec.{eqb, ltb}
 use lib.Pow.{pow-add}
 use lib.IntN.{ℤ, pos, negℤ, natAbs, _-ℤ_}
-use lib.ListN.{length, getD, take, drop, length-drop, List·getD-eq-default}
+use lib.ListN.{length, getD, take, drop, List·getD-eq-default}
 use lib.Seq.{getD-drop, drop-drop, drop-cons, length-take-le}
 use lib.Signed.{mag}
 use mir.Syntax.{w64}
@@ -25,9 +25,7 @@ use Rattle.number.proofs.Zed.{P-neg, N-neg, sub-ℤ, eq-of, fits-of}
 use Rattle.number.proofs.Ranges.{rd}
 use Rattle.interval.specs.Grammar.{precision, wholeFits}
 use Rattle.interval.specs.Division.{negative, signLen, amountLen}
-use Rattle.interval.specs.Contribution.{amountOf}
-use Rattle.interval.specs.Read.{amountFrom, cap, NumberIs, ReadIs, PointAt}
-use Rattle.interval.specs.declared.IntervalAmount.{IntervalAmount}
+use Rattle.interval.specs.Read.{cap, NumberIs, ReadIs, PointAt}
 use Rattle.interval.specs.declared.Number.{Number}
 use Rattle.interval.proofs.Cuts.{ten-pos}
 use Rattle.interval.proofs.AmountLaws.{run-is, behind, wholeValue, afterDigits, afterPoint, unfit-len, whole-len, point-len, whole-value, point-value}

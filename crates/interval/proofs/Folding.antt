@@ -1,13 +1,13 @@
 -- A turn of the loop that adds up components: units are marked in a list by their ranks, and the answer from a place on is that of the
 -- whole text. Assumes nothing.
 use mathlib.Core.Path.{_≡_, refl, sym, ap, _∙_}
-use mathlib.Core.Bool.{Bool, true, false, cond, _||_, false≢true}
-use mathlib.Core.List.{List, [], _∷_}
+use mathlib.Core.Bool.{Bool, true, false, cond, _||_}
+use mathlib.Core.List.{List}
 use mathlib.Core.Option.{Option, none, some}
 use Prim.Native.Nat.{ℕ, _+_, _-_, _^_, _<_}
 use native.Mathlib.Omega.{arith}
 use lib.Dec.{eqb}
-use lib.IntN.{ℤ, natAbs}
+use lib.IntN.{natAbs}
 use lib.ListN.{length, getD, set, drop, replicate, getD-replicate}
 use lib.Seq.{getD-set-same, getD-set-other}
 use mir.Syntax.{w64}
@@ -18,12 +18,12 @@ use Rattle.text.specs.Utf8.{utf8}
 use Rattle.text.proofs.Bools.{by-test}
 use Rattle.number.specs.Widths.{signed}
 use Rattle.number.proofs.Ranges.{rd}
-use Rattle.refusal.specs.Outcome.{Outcome, accepted, refused, numberIn}
+use Rattle.refusal.specs.Outcome.{Outcome, refused, numberIn}
 use Rattle.interval.specs.Units.{rank}
 use Rattle.interval.specs.Grammar.{precision, Component}
 use Rattle.interval.specs.Division.{step, bad, before, divide}
 use Rattle.interval.specs.Contribution.{Value, Counts, amountOf, contribution}
-use Rattle.interval.specs.Answer.{orElse, unitFor, gives, fits, plus, zeros, onTotals, onDivision, monthDayNano}
+use Rattle.interval.specs.Answer.{orElse, unitFor, gives, zeros, onTotals, onDivision, monthDayNano}
 use Rattle.interval.specs.Read.{amountFrom, Holds, LastIs, MoreIs, added, onAdded}
 use Rattle.interval.specs.declared.IntervalAmount.{IntervalAmount}
 use Rattle.interval.specs.declared.IntervalUnit.{IntervalUnit}

@@ -1,6 +1,6 @@
 -- The letters of a unit word as a loop packs them: one letter more, and where no longer word is a unit. Assumes nothing.
 use mathlib.Core.Path.{_≡_, refl, sym, ap, _∙_}
-use mathlib.Core.Bool.{Bool, true, false, _&&_, false≢true}
+use mathlib.Core.Bool.{true, false, _&&_, false≢true}
 use mathlib.Core.List.{List, [], _∷_, _++_, append-assoc, append-nil}
 use mathlib.Core.Option.{none}
 use Prim.Native.Nat.{ℕ, suc, zero, _+_, _-_, _*_, _≤_, _<_}
@@ -9,9 +9,9 @@ use native.Mathlib.Omega.{arith}
 use lib.Dec.{eqb}
 use lib.ListN.{length, getD, take, drop, length-drop, take-append-drop}
 use lib.Seq.{getD-drop, drop-drop, take-add, take-all}
-use borrow.Author.Tests.{eqb-true, ne-eqb}
+use borrow.Author.Tests.{ne-eqb}
 use Rattle.text.specs.Digits.{within}
-use Rattle.text.proofs.Bools.{and-left, and-right, and-false, by-test, within-is, within-yes, within-under, within-over}
+use Rattle.text.proofs.Bools.{and-false, by-test, within-is, within-yes, within-over}
 use Rattle.interval.specs.Units.{spellings, low, kelvin, lower, unitOf}
 use Rattle.interval.specs.Keys.{lowered, keyOn, byKey, codeOf, letterOf, Packed, LettersIs}
 use Rattle.interval.specs.declared.Letter.{Letter}

@@ -1,6 +1,6 @@
 -- A component as the code finds it at a place: an amount, and behind it the letters of its unit, or nothing. Assumes nothing.
-use mathlib.Core.Path.{_≡_, refl, sym, ap, _∙_}
-use mathlib.Core.Bool.{true, false, not}
+use mathlib.Core.Path.{_≡_, refl, sym, _∙_}
+use mathlib.Core.Bool.{false, not}
 use mathlib.Core.List.{List, _++_}
 use mathlib.Core.Option.{none, some}
 use Prim.Native.Nat.{ℕ, _+_, _-_, _≤_, _<_}
@@ -13,7 +13,7 @@ use borrow.Author.Tests.{leb-true, leb-false, eqb-true, eqb-false}
 use Rattle.text.specs.WhiteSpace.{white1, whiteOf, whiteLen}
 use Rattle.text.proofs.Bools.{by-test}
 use Rattle.text.proofs.WhiteAgrees.{no-longer}
-use Rattle.interval.specs.Units.{spellings, unitOf, isUnit}
+use Rattle.interval.specs.Units.{spellings, unitOf}
 use Rattle.interval.specs.Grammar.{precision, component}
 use Rattle.interval.specs.Division.{wordLen, step, bad}
 use Rattle.interval.specs.Answer.{orElse}

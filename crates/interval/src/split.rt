@@ -56,6 +56,7 @@ pub fn unit_at(text: &[u8], at: usize, amount: IntervalAmount, end: usize) -> Pi
     }
 }
 
+// The component at a place.
 pub fn split_interval_component(text: &[u8], at: usize) -> Piece
     requires { ⌜ at ≤ length (now text) ⌝ }
     ensures { λ r. ⌜ pieceIs (now (text .entry)) at r ⌝ }

@@ -1,6 +1,6 @@
 -- `interval::components::parse_interval_components` meets its contract. The loop's invariant: marks, repeat and totals so far, and what is
 -- left of the text, give its answer. The measure is what is left of the text. Assumes nothing.
-use mathlib.Core.Path.{_≡_, refl, sym, ap, _∙_}
+use mathlib.Core.Path.{_≡_, refl, _∙_}
 use Prim.Native.Nat.{_-_, _≤_}
 use native.Mathlib.Omega.{arith}
 use lib.ListN.{length, length-set}
