@@ -1,26 +1,25 @@
 -- What an amount of a unit comes to, as the code counts it: whole part and fraction both carry the sign, powers of ten go out of a
 -- fraction's factor and divisor, and a count is exact or does not fit. Assumes nothing.
 use mathlib.Core.Path.{_≡_, refl, sym, ap, _∙_}
-use mathlib.Core.Bool.{Bool, true, false, cond, _&&_}
+use mathlib.Core.Bool.{Bool, true, false}
 use mathlib.Core.Option.{Option, none, some, Option·none-ne-some}
 use Prim.Native.Nat.{ℕ, zero, suc, _+_, _-_, _*_, _/_, _^_, _≤_, _<_}
-use native.Mathlib.Nat.{mul-le-mul, mul-le-mul-left, mul-le-mul-right, div-lt-iff-lt-mul, div-le-self, zero-div, zero-mul, mul-one}
+use native.Mathlib.Nat.{mul-le-mul, mul-le-mul-left, mul-le-mul-right, div-lt-iff-lt-mul, div-le-self, zero-div}
 use native.Mathlib.Omega.{arith}
-use lib.Pow.{pow-pos}
 use lib.IntN.{ℤ, pos, negsuc, negℤ, natAbs, _+ℤ_, _-ℤ_, _*ℤ_}
-use lib.Signed.{ltZ, quotZ, mag}
+use lib.Signed.{ltZ, quotZ}
 use mir.Syntax.{Width, w32, w64}
 use mir.Val.{SFits, hbits, toZ}
 use mir.Facts.{toZ-ofZ, toZ-pos}
 use Rattle.text.proofs.Bools.{by-test}
 use Rattle.number.specs.Widths.{inSigned, signed, fit}
-use Rattle.number.proofs.Zed.{P, N, P-neg, N-neg, add-pn, sub-ℤ, mul-P, mul-N, lt-yes, lt-no, eq-of, of-fits, fits-of}
+use Rattle.number.proofs.Zed.{P, N, P-neg, N-neg, add-pn, mul-P, mul-N, lt-yes, lt-no, eq-of, fits-of}
 use Rattle.number.proofs.Ranges.{rd, fit-yes, fit-above, fit-below}
 use Rattle.number.proofs.Sizes.{too-large}
 use Rattle.interval.specs.Grammar.{precision}
 use Rattle.interval.specs.Contribution.{Value, Counts, counts, times, wholeTimes, fracTimes}
 use Rattle.interval.specs.Answer.{fits, plus}
-use Rattle.interval.specs.Read.{amountFrom, Most, together, fitting, added, onAdded}
+use Rattle.interval.specs.Read.{amountFrom, Most, together, fitting, added}
 use Rattle.interval.specs.declared.IntervalAmount.{IntervalAmount}
 use Rattle.interval.proofs.Cuts.{ten-pos, times-cut, cut-ratio}
 use Rattle.interval.proofs.Amounts.{abs-signed, size-flips, size-minus}

@@ -1,6 +1,6 @@
 -- Amounts as the code reads them at a place: digits as a capped number, the whole part with its sign, the fraction. Assumes nothing.
-use mathlib.Core.Path.{_≡_, refl, sym, ap, _∙_}
-use mathlib.Core.Bool.{Bool, true, false, cond, false≢true}
+use mathlib.Core.Path.{_≡_, refl, sym, _∙_}
+use mathlib.Core.Bool.{Bool, true, false, cond}
 use mathlib.Core.List.{List, [], _∷_}
 use mathlib.Core.Option.{none, some, Option·none-ne-some}
 use Prim.Native.Nat.{ℕ, zero, suc, _+_, _-_, _*_, _^_, _≤_, _<_, min}
@@ -10,13 +10,13 @@ use native.Mathlib.Omega.{arith}
 use lib.Dec.{eqb, ltb}
 use lib.Pow.{pow-add}
 use lib.IntN.{ℤ, pos, negℤ, natAbs, _-ℤ_}
-use lib.ListN.{length, getD, take, drop, length-drop, List·getD-eq-default}
+use lib.ListN.{length, getD, take, drop, List·getD-eq-default}
 use lib.Seq.{getD-drop, drop-drop, drop-cons, length-take-le}
 use lib.Signed.{mag}
 use mir.Syntax.{w64}
 use mir.Val.{SFits, toZ}
 use mir.Facts.{toZ-ofZ, toZ-pos}
-use borrow.Author.Tests.{eq-eqb, ne-eqb, lt-ltb, le-ltb, ltb-true, ltb-false}
+use borrow.Author.Tests.{eqb-true, eq-eqb, ne-eqb, lt-ltb, le-ltb, ltb-true, ltb-false}
 use Rattle.text.specs.Digits.{isDigit, worth, digitOf, digits, value, run, within}
 use Rattle.text.proofs.Bools.{and-left, and-right, by-test, both-ways, within-is, within-yes, within-under, within-over}
 use Rattle.text.proofs.DigitLaws.{is-worth, run-on, run-off, run-end}
@@ -25,9 +25,7 @@ use Rattle.number.proofs.Zed.{P-neg, N-neg, sub-ℤ, eq-of, fits-of}
 use Rattle.number.proofs.Ranges.{rd}
 use Rattle.interval.specs.Grammar.{precision, wholeFits}
 use Rattle.interval.specs.Division.{negative, signLen, amountLen}
-use Rattle.interval.specs.Contribution.{amountOf}
-use Rattle.interval.specs.Read.{amountFrom, cap, NumberIs, ReadIs, PointAt}
-use Rattle.interval.specs.declared.IntervalAmount.{IntervalAmount}
+use Rattle.interval.specs.Read.{cap, NumberIs, ReadIs, PointAt}
 use Rattle.interval.specs.declared.Number.{Number}
 use Rattle.interval.proofs.Cuts.{ten-pos}
 use Rattle.interval.proofs.AmountLaws.{run-is, behind, wholeValue, afterDigits, afterPoint, unfit-len, whole-len, point-len, whole-value, point-value}
@@ -143,13 +141,22 @@ at-byte s i h =
     (λ e. omega (arith, ltb-true i (length s) e))
     (λ e. absurd (omega (arith, List·getD-eq-default s 0 (ltb-false i (length s) e))))
 
-pub sign-minus : (s : List ℕ) (at : ℕ) → getD s at 0 ≡ 0x2D → (true ≡ negative (drop at s)) × (at + 1 ≡ at + signLen true) × (at + 1 ≤ length s)
-unfolding negative signLen
-sign-minus s at h = (rw (getD-drop at s 0 0, add-zero, h), refl, at-byte s at (omega arith))
+-- b is the byte at place at, and a sign there ends at from
+abbrev pub SignEnds : List ℕ → (at b from : ℕ) → Type 0
+SignEnds s at b from = (eqb b 0x2D ≡ negative (drop at s)) × (from ≡ at + signLen (eqb b 0x2D)) × (from ≤ length s)
 
-pub sign-none : (s : List ℕ) (at : ℕ) → (getD s at 0 ≡ 0x2D → ⊥) → (false ≡ negative (drop at s)) × (at ≡ at + signLen false)
-unfolding negative signLen
-sign-none s at h = (rw (getD-drop at s 0 0, add-zero, ne-eqb (getD s at 0) 0x2D h), omega arith)
+module _ (s : List ℕ) (at : ℕ) {b : ℕ} (B : b ≡ getD s at 0) where
+  same-sign : eqb b 0x2D ≡ negative (drop at s)
+  unfolding negative
+  same-sign = rw (B, getD-drop at s 0 0, add-zero)
+
+  pub sign-minus : eqb b 0x2D ≡ true → {from : ℕ} → from ≡ at + 1 → SignEnds s at b from
+  unfolding signLen
+  sign-minus e f = (same-sign, rw e f, rw f (at-byte s at (omega (arith, eqb-true b 0x2D e))))
+
+  pub sign-none : at ≤ length s → eqb b 0x2D ≡ false → {from : ℕ} → from ≡ at → SignEnds s at b from
+  unfolding signLen
+  sign-none l e f = (same-sign, rw e (omega arith), omega arith)
 
 module _ (s : List ℕ) (at from : ℕ) (neg : Bool) (N : neg ≡ negative (drop at s)) (F : from ≡ at + signLen neg) where
   abbrev wv : ℕ

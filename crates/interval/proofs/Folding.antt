@@ -1,27 +1,34 @@
 -- A turn of the loop that adds up components: units are marked in a list by their ranks, and the answer from a place on is that of the
 -- whole text. Assumes nothing.
 use mathlib.Core.Path.{_≡_, refl, sym, ap, _∙_}
-use mathlib.Core.Bool.{Bool, true, false, cond, _||_, false≢true}
-use mathlib.Core.List.{List, [], _∷_}
+use mathlib.Core.Bool.{Bool, true, false, cond, _||_}
+use mathlib.Core.List.{List}
 use mathlib.Core.Option.{Option, none, some}
-use Prim.Native.Nat.{ℕ, _+_, _-_, _≤_, _<_}
+use Prim.Native.Nat.{ℕ, _+_, _-_, _^_, _<_}
 use native.Mathlib.Omega.{arith}
 use lib.Dec.{eqb}
+use lib.IntN.{natAbs}
 use lib.ListN.{length, getD, set, drop, replicate, getD-replicate}
 use lib.Seq.{getD-set-same, getD-set-other}
+use mir.Syntax.{w64}
+use mir.Val.{SFits}
+use mir.Facts.{toZ-ofZ}
 use borrow.Author.Tests.{eqb-true, eqb-false}
 use Rattle.text.specs.Utf8.{utf8}
 use Rattle.text.proofs.Bools.{by-test}
-use Rattle.refusal.specs.Outcome.{Outcome, accepted, refused, numberIn}
+use Rattle.number.specs.Widths.{signed}
+use Rattle.number.proofs.Ranges.{rd}
+use Rattle.refusal.specs.Outcome.{Outcome, refused, numberIn}
 use Rattle.interval.specs.Units.{rank}
 use Rattle.interval.specs.Grammar.{precision, Component}
 use Rattle.interval.specs.Division.{step, bad, before, divide}
 use Rattle.interval.specs.Contribution.{Value, Counts, amountOf, contribution}
-use Rattle.interval.specs.Answer.{orElse, unitFor, gives, fits, plus, zeros, onTotals, onDivision, monthDayNano}
+use Rattle.interval.specs.Answer.{orElse, unitFor, gives, zeros, onTotals, onDivision, monthDayNano}
 use Rattle.interval.specs.Read.{amountFrom, Holds, LastIs, MoreIs, added, onAdded}
 use Rattle.interval.specs.declared.IntervalAmount.{IntervalAmount}
 use Rattle.interval.specs.declared.IntervalUnit.{IntervalUnit}
 use Rattle.interval.specs.declared.IntervalUnit.the-variants.{Century, Decade, Year, Month, Week, Day, Hour, Minute, Second, Millisecond, Microsecond, Nanosecond}
+use Rattle.interval.proofs.Adding.{small-fits}
 use Rattle.interval.proofs.Steps.{at-bad, at-last, at-more}
 use Rattle.interval.proofs.Turns.{mark, unseen, addTo, settle, settle-start, settle-bad, settle-last, settle-more, settle-same}
 use Rattle.interval.proofs.Demand3.{but-eight, eight}
@@ -65,6 +72,13 @@ abbrev pub Goes : List ℕ → IntervalUnit → ℕ → List Bool → Bool → O
 Goes s u at seen repeated total =
     onDivision precision u (divide precision s) ≡ settle precision u (seenIn seen) repeated total (divide precision (drop at s))
 
+-- a fraction is read back
+reads-frac : (a : IntervalAmount) → natAbs (a .frac) < 10 ^ precision → rd w64 (a .frac) ≡ a .frac
+reads-frac a h = toZ-ofZ (small-fits (a .frac) (omega arith))
+
+pub frac-small : (a : IntervalAmount) → natAbs (a .frac) < 10 ^ precision → natAbs (rd w64 (a .frac)) < 10 ^ precision
+frac-small a h = rw (reads-frac a h) h
+
 -- what the code adds is what the definition adds
 added-is : (u : IntervalUnit) (o : Option Counts) (c : Component) → onAdded o (gives precision u c) ≡ addTo precision u o c
 unfolding onAdded added addTo
@@ -92,11 +106,14 @@ module _ (s : List ℕ) (u : IntervalUnit) where
         sym (eight precision u s n ∙ by-test (utf8 s) (λ p. rw (h, p)) (λ p. rw (h, p)))
 
     -- the amount a of unit v, whose mark is at k, makes the totals t
-    module _ (a : IntervalAmount) (v : IntervalUnit) {k : ℕ} (K : k ≡ rank v) {t : Option Counts} (T : (x : Value) → a ≡ amountFrom x → t ≡ onAdded total (contribution precision v x)) where
+    module _ (a : IntervalAmount) (v : IntervalUnit) {k : ℕ} (K : k ≡ rank v) {t : Option Counts} (F : SFits w64 (a .integer)) (T : (x : Value) → rd w64 (a .integer) ≡ signed (x .neg) (x .integer) → rd w64 (a .frac) ≡ signed (x .neg) (x .frac) → t ≡ onAdded total (contribution precision v x)) where
       -- of a component c
       totals-are : (c : Component) (w : Option IntervalUnit) → Holds c a w → unitFor u c ≡ v → t ≡ addTo precision u total c
       unfolding gives
-      totals-are c w H e = T (amountOf precision (c .amount)) (H .amount-is) ∙ rw (← e) (added-is u total c)
+      totals-are c w H e =
+          let i : rd w64 (a .integer) ≡ amountFrom (amountOf precision (c .amount)) .integer = toZ-ofZ F ∙ ap (λ (y : IntervalAmount). y .integer) (H .amount-is) in
+          let f : rd w64 (a .frac) ≡ amountFrom (amountOf precision (c .amount)) .frac = reads-frac a (H .small) ∙ ap (λ (y : IntervalAmount). y .frac) (H .amount-is) in
+          T (amountOf precision (c .amount)) i f ∙ rw (← e) (added-is u total c)
 
       pub last-answer : {w : Option IntervalUnit} → LastIs s at a w → v ≡ orElse u w → {r : Outcome Counts} → r ≡ cond (repeated || getD seen k false) (refused 9) (onTotals t) → r ≡ monthDayNano precision u s
       last-answer {w} L o {r} R =

@@ -1,6 +1,6 @@
 -- The letters of a unit word as a loop packs them: one letter more, and where no longer word is a unit. Assumes nothing.
 use mathlib.Core.Path.{_≡_, refl, sym, ap, _∙_}
-use mathlib.Core.Bool.{Bool, true, false, _&&_, false≢true}
+use mathlib.Core.Bool.{true, false, _&&_, false≢true}
 use mathlib.Core.List.{List, [], _∷_, _++_, append-assoc, append-nil}
 use mathlib.Core.Option.{none}
 use Prim.Native.Nat.{ℕ, suc, zero, _+_, _-_, _*_, _≤_, _<_}
@@ -9,9 +9,9 @@ use native.Mathlib.Omega.{arith}
 use lib.Dec.{eqb}
 use lib.ListN.{length, getD, take, drop, length-drop, take-append-drop}
 use lib.Seq.{getD-drop, drop-drop, take-add, take-all}
-use borrow.Author.Tests.{eqb-true, ne-eqb}
+use borrow.Author.Tests.{ne-eqb}
 use Rattle.text.specs.Digits.{within}
-use Rattle.text.proofs.Bools.{and-left, and-right, and-false, by-test, within-is, within-yes, within-under, within-over}
+use Rattle.text.proofs.Bools.{and-false, by-test, within-is, within-yes, within-over}
 use Rattle.interval.specs.Units.{spellings, low, kelvin, lower, unitOf}
 use Rattle.interval.specs.Keys.{lowered, keyOn, byKey, codeOf, letterOf, Packed, LettersIs}
 use Rattle.interval.specs.declared.Letter.{Letter}
@@ -40,9 +40,22 @@ module _ (b c d : ℕ) where
       let e : (b + 0x20) - 0x60 ≡ b - 0x40 = omega arith in
       rw (not-kelvin b c d (omega arith), h, within-yes 0x61 (b + 0x20) 0x7A (omega arith) (omega arith), e)
 
-  pub no-letter : within 0x61 b 0x7A ≡ false → within 0x41 b 0x5A ≡ false → kelvin b c d ≡ false → record { code = 0; width = 1 } ≡ letterOf b c d
-  unfolding letterOf codeOf low
-  no-letter p q r = rw (r, q, p)
+  pub kelvin-letter : b ≡ 0xE2 → eqb c 0x84 && eqb d 0xAA ≡ true → record { code = 11; width = 3 } ≡ letterOf b c d
+  unfolding letterOf kelvin
+  kelvin-letter p q = rw (p, q)
+
+  module _ (p : within 0x61 b 0x7A ≡ false) (q : within 0x41 b 0x5A ≡ false) where
+    plain-none : kelvin b c d ≡ false → record { code = 0; width = 1 } ≡ letterOf b c d
+    unfolding letterOf codeOf low
+    plain-none r = rw (r, q, p)
+
+    pub no-letter : (b ≡ 0xE2 → ⊥) → record { code = 0; width = 1 } ≡ letterOf b c d
+    unfolding kelvin
+    no-letter h = plain-none (rw (ne-eqb b 0xE2 h))
+
+    pub no-kelvin-letter : eqb c 0x84 && eqb d 0xAA ≡ false → record { code = 0; width = 1 } ≡ letterOf b c d
+    unfolding kelvin
+    no-kelvin-letter h = plain-none (rw (h, and-false (eqb b 0xE2)))
 
 -- ---- the letter at the front of a text
 
@@ -186,9 +199,9 @@ pub record OneMore (s : List ℕ) (from i k : ℕ) (l : Letter) : Type 0 where
   pub packed : Packed (take ((i + l .width) - from) (drop from s)) (k * 32 + l .code)
 
 -- the letter l stands at place i, behind letters with the key k
-module _ (s : List ℕ) (from i k : ℕ) (h : from ≤ i) (p : i < length s) (P : Packed (take (i - from) (drop from s)) k) {l : Letter} {c d : ℕ} (e : l ≡ letterOf (getD s i 0) c d) (C : c ≡ getD s (i + 1) 0) (D : d ≡ getD s (i + 2) 0) where
+module _ (s : List ℕ) (from i k : ℕ) (h : from ≤ i) (p : i < length s) (P : Packed (take (i - from) (drop from s)) k) {l : Letter} (e : l ≡ letterOf (getD s i 0) (getD s (i + 1) 0) (getD s (i + 2) 0)) where
   here : l ≡ frontOf (drop i s)
-  here = e ∙ rw (C, D, getD-drop i s 0 0, getD-drop i s 1 0, getD-drop i s 2 0, add-zero)
+  here = e ∙ rw (getD-drop i s 0 0, getD-drop i s 1 0, getD-drop i s 2 0, add-zero)
 
   rest-some : 0 < length (drop i s)
   rest-some = omega (arith, length-drop i s)

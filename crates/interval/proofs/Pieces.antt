@@ -1,18 +1,19 @@
 -- A component as the code finds it at a place: an amount, and behind it the letters of its unit, or nothing. Assumes nothing.
-use mathlib.Core.Path.{_≡_, refl, sym, ap, _∙_}
-use mathlib.Core.Bool.{true, false, not}
+use mathlib.Core.Path.{_≡_, refl, sym, _∙_}
+use mathlib.Core.Bool.{false, not}
 use mathlib.Core.List.{List, _++_}
 use mathlib.Core.Option.{none, some}
 use Prim.Native.Nat.{ℕ, _+_, _-_, _≤_, _<_}
+use native.Mathlib.Nat.{add-zero}
 use native.Mathlib.Omega.{arith}
 use lib.Dec.{eqb, leb}
-use lib.ListN.{length, take, drop, length-drop, take-append-drop}
-use lib.Seq.{drop-drop, take-add, length-take-le}
+use lib.ListN.{length, getD, take, drop, length-drop, take-append-drop}
+use lib.Seq.{getD-drop, drop-drop, take-add, length-take-le}
 use borrow.Author.Tests.{leb-true, leb-false, eqb-true, eqb-false}
-use Rattle.text.specs.WhiteSpace.{whiteLen}
+use Rattle.text.specs.WhiteSpace.{white1, whiteOf, whiteLen}
 use Rattle.text.proofs.Bools.{by-test}
 use Rattle.text.proofs.WhiteAgrees.{no-longer}
-use Rattle.interval.specs.Units.{spellings, unitOf, isUnit}
+use Rattle.interval.specs.Units.{spellings, unitOf}
 use Rattle.interval.specs.Grammar.{precision, component}
 use Rattle.interval.specs.Division.{wordLen, step, bad}
 use Rattle.interval.specs.Answer.{orElse}
@@ -24,6 +25,11 @@ use Rattle.interval.specs.declared.Letters.{Letters}
 use Rattle.interval.proofs.Words.{word-past, word-on, word-off, word-end, spells, spells-none, unit-spelled, unit-default}
 use Rattle.interval.proofs.Steps.{amount-last, word-bad, unit-last, unit-more}
 use Rattle.interval.proofs.Packing.{packed-letters, packed-unit}
+
+-- a space
+pub space-here : (s : List ℕ) (at : ℕ) → getD s at 0 ≡ 0x20 → 1 ≡ whiteLen (drop at s)
+unfolding whiteOf white1
+space-here s at h = rw (getD-drop at s 0 0, add-zero, h)
 
 -- an amount from at to e
 module _ (s : List ℕ) (at : ℕ) (a : IntervalAmount) (e : ℕ) (R : ReadIs s at a e) where

@@ -13,7 +13,7 @@ use Rattle.text.specs.WhiteSpace.{whiteLen}
 use Rattle.number.specs.Widths.{inSigned, signed, fit}
 use Rattle.refusal.specs.Outcome.{Outcome, accepted, because}
 use Rattle.interval.specs.Grammar.{precision, wholeFits, Component}
-use Rattle.interval.specs.Division.{negative, signLen, amountLen, Step, bad, stop, go, step}
+use Rattle.interval.specs.Division.{negative, signLen, amountLen, bad, stop, go, step}
 use Rattle.interval.specs.Contribution.{Value, amountOf, Counts, counts, countsOf}
 use Rattle.interval.specs.Answer.{orElse, unitFor, fits, plus, DayTime, dayTimeOf}
 use Rattle.interval.specs.declared.AmountRead.{AmountRead}

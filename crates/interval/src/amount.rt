@@ -126,9 +126,7 @@ pub fn amount_at(text: &[u8], at: usize) -> AmountRead
     requires { ⌜ at ≤ length (now text) ⌝ }
     ensures { λ r. ⌜ amountIs (now (text .entry)) at r ⌝ }
 {
-    if text::white::byte_at(text, at) == b'-' {
-        unsigned_at(text, at, at + 1, true)
-    } else {
-        unsigned_at(text, at, at, false)
-    }
+    let neg = text::white::byte_at(text, at) == b'-';
+    let from = if neg { at + 1 } else { at };
+    unsigned_at(text, at, from, neg)
 }

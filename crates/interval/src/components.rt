@@ -38,7 +38,16 @@ pub fn settled(repeated: bool, total: Sum) -> IntervalRead
         return IntervalRead::Refused(Refusal::RepeatedUnit);
     }
     match total {
-        Sum::Fits(interval) => IntervalRead::Value(interval),
+        Sum::Fits(interval) => {
+            let months = interval.months;
+            let days = interval.days;
+            let nanos = interval.nanos;
+            IntervalRead::Value(Interval {
+                months: Months(months.0),
+                days: Days(days.0),
+                nanos: Nanos(nanos.0),
+            })
+        }
         Sum::Over => IntervalRead::Refused(Refusal::Overflow),
     }
 }
@@ -63,13 +72,17 @@ pub fn parse_interval_components(value: &[u8], default_unit: IntervalUnit) -> In
             Piece::Last(amount, word) => {
                 let unit = word.or_default(default_unit);
                 let k = unit.mark();
-                return settled(repeated | seen[k], total.add(amount, unit));
+                let integer = amount.integer;
+                let frac = amount.frac;
+                return settled(repeated | seen[k], total.add(integer, frac, unit));
             }
             Piece::More(amount, unit, next) => {
                 let k = unit.mark();
                 repeated = repeated | seen[k];
                 seen[k] = true;
-                total = total.add(amount, unit);
+                let integer = amount.integer;
+                let frac = amount.frac;
+                total = total.add(integer, frac, unit);
                 at = next;
             }
         }

@@ -78,7 +78,7 @@ pub fn cut(frac: i64, a: u32, c: u64) -> i64
     frac * (a as i64) / (c as i64)
 }
 
-// Months alone: the amount times k, where k is a over c for a fraction that counts ten to the limit.
+// Months alone: the amount times k. A fraction counts ten to the limit, so that its factor is a over c.
 pub fn months(amount: IntervalAmount, k: u32, a: u32, c: u64) -> Sum
     requires { ⌜ (natAbs (amount .frac) < 10 ^ precision) × (1 ≤ k) × (k ≤ 1200) × (a ≤ 6048) × (0 < c) × (c ≤ 10 ^ precision) × (k * c ≡ a * 10 ^ precision) ⌝ }
     ensures { λ r. ⌜ ((v : Value) → amount ≡ amountFrom v → sumOf r ≡ fitting (threeOf (times precision k v) (pos 0) (pos 0))) ⌝ }
@@ -134,7 +134,7 @@ pub fn nanos(amount: IntervalAmount, k: u64, most: u64, a: u32, c: u64) -> Sum
     )
 }
 
-// A nanosecond is not cut.
+// Nanoseconds as they are: a fraction of one comes to nothing.
 pub fn nanoseconds(amount: IntervalAmount) -> Sum
     requires { ⌜ natAbs (amount .frac) < 10 ^ precision ⌝ }
     ensures { λ r. ⌜ ((v : Value) → amount ≡ amountFrom v → sumOf r ≡ fitting (threeOf (pos 0) (pos 0) (times precision 1 v))) ⌝ }
@@ -189,21 +189,21 @@ impl Interval {
         requires { ⌜ natAbs (amount .frac) < 10 ^ precision ⌝ }
         ensures { λ r. ⌜ ((v : Value) → amount ≡ amountFrom v → sumOf r ≡ added (countsOf self) (contribution precision unit v)) ⌝ }
     {
-        match contribution(amount, unit) {
-            Sum::Fits(more) => self.plus(more),
-            Sum::Over => Sum::Over,
-        }
+        let Sum::Fits(more) = contribution(amount, unit) else {
+            return Sum::Over;
+        };
+        self.plus(more)
     }
 }
 
 impl Sum {
-    // Once a count did not fit, none does.
-    pub(crate) fn add(self, amount: IntervalAmount, unit: IntervalUnit) -> Sum
-        requires { ⌜ natAbs (amount .frac) < 10 ^ precision ⌝ }
-        ensures { λ r. ⌜ ((v : Value) → amount ≡ amountFrom v → sumOf r ≡ onAdded (sumOf self) (contribution precision unit v)) ⌝ }
+    // Once a count did not fit, none does. The amount comes as its two numbers, which stay in registers.
+    pub(crate) fn add(self, integer: i64, frac: i64, unit: IntervalUnit) -> Sum
+        requires { ⌜ natAbs frac < 10 ^ precision ⌝ }
+        ensures { λ r. ⌜ ((v : Value) → integer ≡ signed (v .neg) (v .integer) → frac ≡ signed (v .neg) (v .frac) → sumOf r ≡ onAdded (sumOf self) (contribution precision unit v)) ⌝ }
     {
         match self {
-            Sum::Fits(total) => total.add(amount, unit),
+            Sum::Fits(total) => total.add(IntervalAmount { integer, frac }, unit),
             Sum::Over => Sum::Over,
         }
     }

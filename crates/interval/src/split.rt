@@ -7,9 +7,21 @@ use crate::UnitRead;
 use crate::amount;
 use crate::unit;
 ghost use mathlib.Core.Path.{_≡_};
-ghost use Prim.Native.Nat.{_≤_};
-ghost use lib.ListN.{length};
+ghost use Prim.Native.Nat.{_-_, _≤_, _<_};
+ghost use lib.ListN.{length, drop};
+ghost use Rattle.text.specs.WhiteSpace.{whiteLen};
 ghost use Rattle.interval.specs.Read.{ReadIs, endPiece, pieceIs};
+
+// The length of the white space character at a place, 0 for none: nearly always one space.
+pub fn white_len(text: &[u8], at: usize) -> usize
+    requires { ⌜ at < length (now text) ⌝ }
+    ensures { λ r. ⌜ (r ≡ whiteLen (drop at (now (text .entry)))) × (r ≤ length (now (text .entry)) - at) ⌝ }
+{
+    if text[at] == b' ' {
+        return 1;
+    }
+    text::white::white_at(text, at)
+}
 
 // A component whose unit ends at a place: white space must follow, or nothing.
 pub fn end_at(text: &[u8], amount: IntervalAmount, unit: IntervalUnit, at: usize) -> Piece
@@ -19,7 +31,7 @@ pub fn end_at(text: &[u8], amount: IntervalAmount, unit: IntervalUnit, at: usize
     if text.len() <= at {
         return Piece::Last(amount, UnitRead::Unit(unit));
     }
-    let white = text::white::white_at(text, at);
+    let white = white_len(text, at);
     if white == 0 {
         return Piece::Bad;
     }
@@ -34,7 +46,7 @@ pub fn unit_at(text: &[u8], at: usize, amount: IntervalAmount, end: usize) -> Pi
     if text.len() <= end {
         return Piece::Last(amount, UnitRead::None);
     }
-    let from = end + text::white::white_at(text, end);
+    let from = end + white_len(text, end);
     let letters = unit::letters_at(text, from);
     let key = letters.key;
     let next = letters.end;
@@ -44,6 +56,7 @@ pub fn unit_at(text: &[u8], at: usize, amount: IntervalAmount, end: usize) -> Pi
     }
 }
 
+// The component at a place.
 pub fn split_interval_component(text: &[u8], at: usize) -> Piece
     requires { ⌜ at ≤ length (now text) ⌝ }
     ensures { λ r. ⌜ pieceIs (now (text .entry)) at r ⌝ }

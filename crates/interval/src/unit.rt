@@ -4,8 +4,8 @@ use crate::Letter;
 use crate::Letters;
 use crate::UnitRead;
 ghost use mathlib.Core.Path.{_≡_};
-ghost use Prim.Native.Nat.{_≤_};
-ghost use lib.ListN.{length};
+ghost use Prim.Native.Nat.{_+_, _≤_, _<_};
+ghost use lib.ListN.{length, getD};
 ghost use Rattle.interval.specs.Units.{rank, spellings, unitOf};
 ghost use Rattle.interval.specs.Keys.{letterOf, LettersIs, byKey};
 ghost use Rattle.interval.specs.Read.{unitRead};
@@ -44,10 +44,12 @@ impl IntervalUnit {
     }
 }
 
-// The letter that three bytes begin with, in either case; U+212A is a k.
-pub fn letter_of(b: u8, c: u8, d: u8) -> Letter
-    ensures { λ r. ⌜ r ≡ letterOf b c d ⌝ }
+// The letter at a place, in either case; U+212A is a k, and is looked for last.
+pub fn letter_at(text: &[u8], i: usize) -> Letter
+    requires { ⌜ i < length (now text) ⌝ }
+    ensures { λ r. ⌜ r ≡ letterOf (getD (now (text .entry)) i 0) (getD (now (text .entry)) (i + 1) 0) (getD (now (text .entry)) (i + 2) 0) ⌝ }
 {
+    let b = text[i];
     if (0x61 <= b) & (b <= 0x7A) {
         return Letter {
             code: (b as u64) - 0x60,
@@ -60,7 +62,12 @@ pub fn letter_of(b: u8, c: u8, d: u8) -> Letter
             width: 1,
         };
     }
-    if (b == 0xE2) & ((c == 0x84) & (d == 0xAA)) {
+    if b != 0xE2 {
+        return Letter { code: 0, width: 1 };
+    }
+    let c = text::white::byte_at(text, i + 1);
+    let d = text::white::byte_at(text, i + 2);
+    if (c == 0x84) & (d == 0xAA) {
         return Letter { code: 11, width: 3 };
     }
     Letter { code: 0, width: 1 }
@@ -74,12 +81,7 @@ pub fn letters_at(text: &[u8], from: usize) -> Letters
     let mut key: u64 = 0;
     let mut i = from;
     while i < text.len() {
-        let b = text[i];
-        let letter = letter_of(
-            b,
-            text::white::byte_at(text, i + 1),
-            text::white::byte_at(text, i + 2),
-        );
+        let letter = letter_at(text, i);
         let code = letter.code;
         let width = letter.width;
         if code == 0 {

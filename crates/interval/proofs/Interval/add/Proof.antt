@@ -14,25 +14,27 @@ contribution-requires c κs = search needs
 enum-known-more : tie.Need-enum-known-more
 enum-known-more c = search needs
 
-plus-requires : tie.Need-plus-requires
-plus-requires c κs = search needs
-
 enum-told : tie.Need-enum-told
 enum-told c = search needs
 
 returns : tie.Need-returns
 returns c v E =
     let k = c .before .before in
-    let x = k .before .before .before .args in
-    c .plus .ensures ∙ adds (countsOf (x .self)) (contribution precision (x .unit) v) (sym (ap sumOf (k .more .given .1)) ∙ k .before .before .contribution .ensures v E)
+    let x = k .before .args in
+    over (countsOf (x .self)) (contribution precision (x .unit) v) (sym (ap sumOf (c .enum-told .given .1)) ∙ k .contribution .ensures v E)
+
+plus-requires : tie.Need-plus-requires
+plus-requires c κs = search needs
 
 returns-2 : tie.Need-returns-2
 returns-2 c v E =
-    let k = c .before .before in
+    let m = c .before .before in
+    let k = m .before .before in
     let x = k .before .args in
-    over (countsOf (x .self)) (contribution precision (x .unit) v) (sym (ap sumOf (c .enum-told .given .1)) ∙ k .contribution .ensures v E)
+    c .plus .ensures ∙
+    adds (countsOf (x .self)) (contribution precision (x .unit) v) (sym (ap sumOf (m .more .given .1)) ∙ k .contribution .ensures v E)
 
 pub add-spec : {M : Type 1} → statement M
 add-spec =
     tie.close
-    (tie.spec contribution-requires enum-known-more plus-requires enum-told returns returns-2)
+    (tie.spec contribution-requires enum-known-more enum-told returns plus-requires returns-2)

@@ -1,7 +1,7 @@
 -- `interval::amount::number_at` meets its contract. The loop's invariant: what is read so far goes on to the number of the digits, and
 -- they end where the run does. The measure is what is left of the text. Assumes nothing.
 use mathlib.Core.Path.{_≡_, sym, _∙_}
-use Prim.Native.Nat.{_+_, _-_, _≤_, min}
+use Prim.Native.Nat.{_+_, _-_, _≤_}
 use native.Mathlib.Omega.{arith}
 use lib.ListN.{length, drop}
 use borrow.Author.Needs.{needs}

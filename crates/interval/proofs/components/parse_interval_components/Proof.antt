@@ -1,13 +1,15 @@
 -- `interval::components::parse_interval_components` meets its contract. The loop's invariant: marks, repeat and totals so far, and what is
 -- left of the text, give its answer. The measure is what is left of the text. Assumes nothing.
-use mathlib.Core.Path.{_≡_, refl, sym, ap, _∙_}
+use mathlib.Core.Path.{_≡_, refl, _∙_}
 use Prim.Native.Nat.{_-_, _≤_}
 use native.Mathlib.Omega.{arith}
 use lib.ListN.{length, length-set}
+use mir.Syntax.{w64}
+use mir.Val.{SFits}
 use borrow.Author.Needs.{needs}
 use mathlib.Core.Bool.{true}
 use Rattle.interval.specs.Read.{unitRead, sumOf, LastIs, MoreIs, pieceIs}
-use Rattle.interval.proofs.Folding.{Goes, rank-below, starts, bad-answer, last-answer, more-goes}
+use Rattle.interval.proofs.Folding.{Goes, rank-below, frac-small, starts, bad-answer, last-answer, more-goes}
 use Rattle.interval.proofs.components.parse_interval_components.Statement.{statement}
 use Rattle.interval.proofs.components.parse_interval_components.Tie as tie
 
@@ -49,17 +51,17 @@ mark-requires : tie.Need-mark-requires Inv-loop μ-loop
 mark-requires c κs = search needs
 
 array-read-settled : tie.Need-array-read-settled Inv-loop μ-loop
-array-read-settled c = omega (arith, c .mark .ensures, rank-below (c .before .or-default .result))
+array-read-settled c = let k = c .before .before in omega (arith, k .mark .ensures, rank-below (k .before .or-default .result))
 
 add-requires : tie.Need-add-requires Inv-loop μ-loop
 unfolding pieceIs
 add-requires c κs =
-    let p = c .before .before .before in
+    let p = c .before .before .before .before .before in
     let q = p .before .before in
     let l = q .before in
     let x = l .before .before .args in
     let L : LastIs (x .value .now) (l .loop .at) (p .amount .given .0 .0) (unitRead (p .amount .given .0 .1 .0)) = rw (p .amount .given .1) at (q .split-interval-component .ensures) in
-    L .holds .small
+    frac-small (p .amount .given .0 .0) (L .holds .small)
 
 settled-requires : tie.Need-settled-requires Inv-loop μ-loop
 settled-requires c κs = search needs
@@ -67,13 +69,15 @@ settled-requires c κs = search needs
 returns-2 : tie.Need-returns-2 Inv-loop μ-loop
 unfolding pieceIs
 returns-2 c =
-    let p = c .before .before .before .before .before in
+    let p = c .before .before .before .before .before .before .before in
     let q = p .before .before in
     let l = q .before in
     let x = l .before .before .args in
     let L : LastIs (x .value .now) (l .loop .at) (p .amount .given .0 .0) (unitRead (p .amount .given .0 .1 .0)) = rw (p .amount .given .1) at (q .split-interval-component .ensures) in
-    let o = c .before .before .before in
-    last-answer (x .value .now) (x .default-unit) (l .loop .at) (l .loop .seen) (l .loop .repeated) (sumOf (l .loop .total)) (l .loop .inv .2) (p .amount .given .0 .0) (o .or-default .result) (c .before .before .mark .ensures) (c .before .add .ensures) L (o .or-default .ensures) (c .settled .ensures)
+    let k = c .before .before .before .before in
+    let o = k .before in
+    let F : SFits w64 (p .amount .given .0 .0 .integer) = record { sfits = c .before .before .before .struct-told .given .0 .1 } in
+    last-answer (x .value .now) (x .default-unit) (l .loop .at) (l .loop .seen) (l .loop .repeated) (sumOf (l .loop .total)) (l .loop .inv .2) (p .amount .given .0 .0) (o .or-default .result) (k .mark .ensures) F (c .before .add .ensures) L (o .or-default .ensures) (c .settled .ensures)
 
 enum-known-amount-2 : tie.Need-enum-known-amount-2 Inv-loop μ-loop
 enum-known-amount-2 c = search needs
@@ -90,17 +94,17 @@ array-write-seen c = array-read-repeated c
 add-requires-2 : tie.Need-add-requires-2 Inv-loop μ-loop
 unfolding pieceIs
 add-requires-2 c κs =
-    let p = c .before .before in
+    let p = c .before .before .before .before in
     let q = p .before .before in
     let l = q .before in
     let x = l .before .before .args in
     let M : MoreIs (x .value .now) (l .loop .at) (p .amount2 .given .0 .0) (p .amount2 .given .0 .1 .0) (p .amount2 .given .0 .1 .1 .0) = rw (p .amount2 .given .1) at (q .split-interval-component .ensures) in
-    M .holds .small
+    frac-small (p .amount2 .given .0 .0) (M .holds .small)
 
 loop-less : tie.Need-loop-less Inv-loop μ-loop
 unfolding pieceIs
 loop-less c =
-    let p = c .before .before .before in
+    let p = c .before .before .before .before .before in
     let q = p .before .before in
     let l = q .before in
     let x = l .before .before .args in
@@ -110,13 +114,14 @@ loop-less c =
 loop-again : tie.Need-loop-again Inv-loop μ-loop
 unfolding pieceIs
 loop-again c =
-    let p = c .before .before .before in
+    let p = c .before .before .before .before .before in
     let q = p .before .before in
     let l = q .before in
     let x = l .before .before .args in
     let M : MoreIs (x .value .now) (l .loop .at) (p .amount2 .given .0 .0) (p .amount2 .given .0 .1 .0) (p .amount2 .given .0 .1 .1 .0) = rw (p .amount2 .given .1) at (q .split-interval-component .ensures) in
-    let m = c .before .mark2 in
-    (M .inside, length-set (l .loop .seen) (m .result) true ∙ l .loop .inv .1, more-goes (x .value .now) (x .default-unit) (l .loop .at) (l .loop .seen) (l .loop .repeated) (sumOf (l .loop .total)) (l .loop .inv .2) (p .amount2 .given .0 .0) (p .amount2 .given .0 .1 .0) (m .ensures) (c .add2 .ensures) (l .loop .inv .1) M)
+    let m = c .before .before .before .mark2 in
+    let F : SFits w64 (p .amount2 .given .0 .0 .integer) = record { sfits = c .before .before .struct-told3 .given .0 .1 } in
+    (M .inside, length-set (l .loop .seen) (m .result) true ∙ l .loop .inv .1, more-goes (x .value .now) (x .default-unit) (l .loop .at) (l .loop .seen) (l .loop .repeated) (sumOf (l .loop .total)) (l .loop .inv .2) (p .amount2 .given .0 .0) (p .amount2 .given .0 .1 .0) (m .ensures) F (c .add2 .ensures) (l .loop .inv .1) M)
 
 pub parse-interval-components-spec : {M : Type 1} → statement M
 parse-interval-components-spec =

@@ -12,15 +12,15 @@ returns : tie.Need-returns
 unfolding endPiece
 returns c = rw (le-leb _ _ (c .if1 .taken))
 
-white-at-requires : tie.Need-white-at-requires
-white-at-requires c κs = search needs
+white-len-requires : tie.Need-white-len-requires
+white-len-requires c κs = search needs
 
 returns-2 : tie.Need-returns-2
 unfolding endPiece
 returns-2 c =
     let w = c .before in
     let x = w .before .before .before .args in
-    rw (lt-leb (length (x .text .now)) (x .at) (w .before .if1 .left), eq-eqb (whiteLen (drop (x .at) (x .text .now))) 0 (sym (w .white-at .ensures .0) ∙ c .if2 .taken))
+    rw (lt-leb (length (x .text .now)) (x .at) (w .before .if1 .left), eq-eqb (whiteLen (drop (x .at) (x .text .now))) 0 (sym (w .white-len .ensures .0) ∙ c .if2 .taken))
 
 add-t6 : tie.Need-add-t6
 add-t6 c = search needs
@@ -30,7 +30,7 @@ unfolding endPiece
 returns-3 c =
     let w = c .before in
     let x = w .before .before .before .args in
-    rw (lt-leb (length (x .text .now)) (x .at) (w .before .if1 .left), ← w .white-at .ensures .0, ne-eqb (w .white-at .result) 0 (c .if2 .left))
+    rw (lt-leb (length (x .text .now)) (x .at) (w .before .if1 .left), ← w .white-len .ensures .0, ne-eqb (w .white-len .result) 0 (c .if2 .left))
 
 pub end-at-spec : {M : Type 1} → statement M
-end-at-spec = tie.close (tie.spec returns white-at-requires returns-2 add-t6 returns-3)
+end-at-spec = tie.close (tie.spec returns white-len-requires returns-2 add-t6 returns-3)

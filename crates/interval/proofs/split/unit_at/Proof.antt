@@ -13,8 +13,8 @@ returns c =
     let x = c .before .before .args in
     alone (x .text .now) (x .at) (x .amount) (x .end) (c .before .before .pre) (c .if1 .taken)
 
-white-at-requires : tie.Need-white-at-requires
-white-at-requires c κs = search needs
+white-len-requires : tie.Need-white-len-requires
+white-len-requires c κs = search needs
 
 add-from : tie.Need-add-from
 add-from c = search needs
@@ -41,7 +41,7 @@ returns-2 c =
     let w = l .before in
     let i = w .before in
     let x = i .before .before .args in
-    rw (c .end-at .ensures) (unit-piece (x .text .now) (x .at) (x .amount) (x .end) (i .before .before .pre) (i .if1 .left) (w .white-at .result) (x .end + w .white-at .result) (w .white-at .ensures .0) refl (l .letters-at .result) (l .letters-at .ensures) (c .before .before .unit .given .0 .0) (sym (ap unitRead (c .before .before .unit .given .1)) ∙ k .unit-of-key .ensures))
+    rw (c .end-at .ensures) (unit-piece (x .text .now) (x .at) (x .amount) (x .end) (i .before .before .pre) (i .if1 .left) (w .white-len .result) (x .end + w .white-len .result) (w .white-len .ensures .0) refl (l .letters-at .result) (l .letters-at .ensures) (c .before .before .unit .given .0 .0) (sym (ap unitRead (c .before .before .unit .given .1)) ∙ k .unit-of-key .ensures))
 
 returns-3 : tie.Need-returns-3
 unfolding pieceIs
@@ -51,14 +51,14 @@ returns-3 c =
     let w = l .before in
     let i = w .before in
     let x = i .before .before .args in
-    no-unit-here (x .text .now) (x .at) (x .amount) (x .end) (i .before .before .pre) (i .if1 .left) (w .white-at .result) (x .end + w .white-at .result) (w .white-at .ensures .0) refl (l .letters-at .result) (l .letters-at .ensures) (sym (ap unitRead (c .enum-told .given .1)) ∙ k .unit-of-key .ensures)
+    no-unit-here (x .text .now) (x .at) (x .amount) (x .end) (i .before .before .pre) (i .if1 .left) (w .white-len .result) (x .end + w .white-len .result) (w .white-len .ensures .0) refl (l .letters-at .result) (l .letters-at .ensures) (sym (ap unitRead (c .enum-told .given .1)) ∙ k .unit-of-key .ensures)
 
 pub unit-at-spec : {M : Type 1} → statement M
 unit-at-spec =
     tie.close
     (tie.spec
     returns
-    white-at-requires
+    white-len-requires
     add-from
     letters-at-requires
     unit-of-key-requires
