@@ -1,0 +1,60 @@
+-- `cullpethi_cli::lines::all` meets its contract, that it is safe and ends: each turn takes one byte of the input. Assumes nothing.
+use mathlib.Core.Path.{_≡_}
+use Prim.Native.Nat.{_-_, _≤_}
+use lib.ListN.{length}
+use borrow.Author.Needs.{needs}
+use Rattle.cullpethi_cli.proofs.lines.all.Statement.{statement}
+use Rattle.cullpethi_cli.proofs.lines.all.Tie as tie
+
+abbrev Inv-loop : tie.InvT-loop
+Inv-loop reader input line₀ held₀ i₀ line held i = (i ≤ length input) × (length line ≡ length line₀)
+
+abbrev μ-loop : tie.MeasureT-loop
+μ-loop reader input line₀ held₀ i₀ line held i = length input - i
+
+loop-holds : tie.Need-loop-holds Inv-loop μ-loop
+loop-holds c = search needs
+
+shared-slice-read-one : tie.Need-shared-slice-read-one Inv-loop μ-loop
+shared-slice-read-one c = search needs
+
+one-requires : tie.Need-one-requires Inv-loop μ-loop
+one-requires c κs = search needs
+
+add-i : tie.Need-add-i Inv-loop μ-loop
+add-i c = search needs
+
+loop-less : tie.Need-loop-less Inv-loop μ-loop
+loop-less c = search needs
+
+loop-again : tie.Need-loop-again Inv-loop μ-loop
+loop-again c = search needs
+
+same-length : tie.Need-same-length Inv-loop μ-loop
+same-length c = search needs
+
+returns : tie.Need-returns Inv-loop μ-loop
+returns c = search needs
+
+same-length-2 : tie.Need-same-length-2 Inv-loop μ-loop
+same-length-2 c = search needs
+
+returns-2 : tie.Need-returns-2 Inv-loop μ-loop
+returns-2 c = search needs
+
+pub all-spec : {M : Type 1} → statement M
+all-spec =
+    tie.close
+    (tie.spec
+    Inv-loop
+    μ-loop
+    loop-holds
+    shared-slice-read-one
+    one-requires
+    add-i
+    loop-less
+    loop-again
+    same-length
+    returns
+    same-length-2
+    returns-2)
