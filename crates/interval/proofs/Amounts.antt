@@ -250,11 +250,11 @@ module _ (s : List ℕ) (at from : ℕ) (neg : Bool) (N : neg ≡ negative (drop
       places-is : d .next - p ≡ run (drop p s)
       places-is = omega (arith, D .next-is)
 
-      pub no-fraction : d .next - p ≡ 0 → amountLen precision (drop at s) ≡ 0
-      no-fraction e = pointed-len ∙ rw (within-under 1 (run (drop p s)) precision (omega (arith, places-is)))
+      none-behind : d .next - p ≡ 0 → amountLen precision (drop at s) ≡ 0
+      none-behind e = pointed-len ∙ rw (within-under 1 (run (drop p s)) precision (omega (arith, places-is)))
 
-      pub long-fraction : precision < d .next - p → amountLen precision (drop at s) ≡ 0
-      long-fraction e = pointed-len ∙ rw (within-over 1 (run (drop p s)) precision (omega (arith, places-is)))
+      long-behind : precision < d .next - p → amountLen precision (drop at s) ≡ 0
+      long-behind e = pointed-len ∙ rw (within-over 1 (run (drop p s)) precision (omega (arith, places-is)))
 
       module _ (l : d .next - p ≤ precision) (k : ℕ) (K : k ≡ 10 ^ (precision - (d .next - p))) where
         value-uncapped : d .value ≡ fv
@@ -263,11 +263,11 @@ module _ (s : List ℕ) (at from : ℕ) (neg : Bool) (N : neg ≡ negative (drop
         size-is : d .value * k ≡ fv * 10 ^ (precision - run (drop p s))
         size-is = rw (K, value-uncapped, places-is)
 
-        pub size-below : d .value * k < 10 ^ precision
-        size-below = rw size-is (scaled-below (omega (arith, places-is)) .1)
+        below-behind : d .value * k < 10 ^ precision
+        below-behind = rw size-is (scaled-below (omega (arith, places-is)) .1)
 
-        pub pointed : (d .next - p ≡ 0 → ⊥) → {z f : ℤ} → z ≡ signed neg wv → f ≡ signed neg (d .value * k) → ReadIs s at (record { integer = z; frac = f }) (d .next)
-        pointed n {z} {f} Z E =
+        pointed-behind : (d .next - p ≡ 0 → ⊥) → {z f : ℤ} → z ≡ signed neg wv → f ≡ signed neg (d .value * k) → ReadIs s at (record { integer = z; frac = f }) (d .next)
+        pointed-behind n {z} {f} Z E =
             let g : 0 < run (drop p s) = omega (arith, places-is, n) in
             let r : amountLen precision (drop at s) ≡ signLen neg + (run (drop from s) + suc (run (drop p s))) = pointed-len ∙ rw (within-yes 1 (run (drop p s)) precision g (omega (arith, places-is))) in
             let j : d .next - at ≡ signLen (negative (drop at s)) + (run (behind (drop at s)) + suc (run (afterPoint (drop at s)))) = rw (after-point-is, behind-is, ← N) (omega (arith, D .next-is)) in
@@ -276,8 +276,26 @@ module _ (s : List ℕ) (at from : ℕ) (neg : Bool) (N : neg ≡ negative (drop
               inside = D .inside;
               end-is = omega (arith, D .next-is);
               says = rw (j, point-value precision (drop at s) point-here, after-point-is, behind-is, ← N, Z, E, size-is);
-              small = rw (E, abs-signed neg (d .value * k)) size-below;
+              small = rw (E, abs-signed neg (d .value * k)) below-behind;
             }
+
+-- the same of a text that is read up to a point, where d is the number of the digits behind it
+module _ {s : List ℕ} {at p : ℕ} {neg : Bool} {z : ℤ} (Q : PointAt s at p neg z) (d : Number) (D : NumberIs s p d) where
+  place-is : p ≡ at + signLen neg + (run (drop (at + signLen neg) s) + 1)
+  place-is = omega (arith, Q .place)
+
+  pub no-fraction : d .next - p ≡ 0 → amountLen precision (drop at s) ≡ 0
+  no-fraction = none-behind s at (at + signLen neg) neg (Q .sign-is) refl (Q .fitting) p place-is (Q .point) d D
+
+  pub long-fraction : precision < d .next - p → amountLen precision (drop at s) ≡ 0
+  long-fraction = long-behind s at (at + signLen neg) neg (Q .sign-is) refl (Q .fitting) p place-is (Q .point) d D
+
+  module _ (l : d .next - p ≤ precision) {k : ℕ} (K : k ≡ 10 ^ (precision - (d .next - p))) where
+    pub size-below : d .value * k < 10 ^ precision
+    size-below = below-behind s at (at + signLen neg) neg (Q .sign-is) refl (Q .fitting) p place-is (Q .point) d D l k K
+
+    pub pointed : (d .next - p ≡ 0 → ⊥) → {y f : ℤ} → y ≡ z → f ≡ signed neg (d .value * k) → ReadIs s at (record { integer = y; frac = f }) (d .next)
+    pointed n e f = pointed-behind s at (at + signLen neg) neg (Q .sign-is) refl (Q .fitting) p place-is (Q .point) d D l k K n (e ∙ Q .integer-is) f
 
 -- ---- a size with its sign, as the machine has it
 

@@ -137,6 +137,7 @@ impl IntervalParseConfig {
     }
 }
 
+// Months alone; a unit that is left out is the year.
 pub fn parse_interval_year_month(value: &[u8]) -> Read32
     ensures { λ r. ⌜ outcome32 r ≡ yearMonth precision (now (value .entry)) ⌝ }
 {
@@ -150,6 +151,7 @@ pub fn parse_interval_year_month(value: &[u8]) -> Read32
     }
 }
 
+// Days and milliseconds; a unit that is left out is the day.
 pub fn parse_interval_day_time(value: &[u8]) -> DayTimeRead
     ensures { λ r. ⌜ dayTimeOutcome r ≡ dayTime precision (now (value .entry)) ⌝ }
 {
@@ -163,6 +165,7 @@ pub fn parse_interval_day_time(value: &[u8]) -> DayTimeRead
     }
 }
 
+// Months, days and nanoseconds; the caller says which unit may be left out.
 pub fn parse_interval_month_day_nano_config(
     value: &[u8],
     config: IntervalParseConfig,
@@ -172,6 +175,7 @@ pub fn parse_interval_month_day_nano_config(
     Interval::parse(value, config)
 }
 
+// The same; a unit that is left out is the month.
 pub fn parse_interval_month_day_nano(value: &[u8]) -> IntervalRead
     ensures { λ r. ⌜ intervalOutcome r ≡ plainMonthDayNano precision (now (value .entry)) ⌝ }
 {
