@@ -1,9 +1,9 @@
 /* Readers of dates, times of day, timestamps and intervals, proved in Rattle. Link with libcullpethi.a.
  *
  * Each function returns CULLPETHI_OK and writes its cells, or returns a refusal's number and leaves every cell as it was. A text is `len`
- * bytes at `text`: it needs no end mark, and is neither altered nor read past its end; where `len` is 0, `text` may be any pointer but NULL.
- * Each cell is aligned, and apart from the other cells and from the text. A call touches no other memory of the caller, keeps nothing and allocates
- * nothing, so any number of threads may call.
+ * bytes at `text`: it needs no end mark, and is neither altered nor read past its end. Where `len` is 0, `text` may be any pointer but
+ * NULL. Each cell is aligned, and apart from the other cells and from the text. A call touches no other memory of the caller, keeps
+ * nothing and allocates nothing, so any number of threads may call.
  */
 #ifndef CULLPETHI_H
 #define CULLPETHI_H
