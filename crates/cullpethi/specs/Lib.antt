@@ -1,0 +1,2 @@
+-- What the contracts of `cullpethi` cite.
+pub mod Cells

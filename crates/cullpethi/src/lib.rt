@@ -1,0 +1,194 @@
+// The C interface: each function returns 0 and writes its cells, or returns a refusal's number and writes nothing.
+use crate::cells::put_day_time;
+use crate::cells::put_interval;
+use crate::cells::put32;
+use crate::cells::put64;
+use column::dates::Date32Type;
+use column::dates::Date64Type;
+use column::stamps::TimestampMicrosecondType;
+use column::stamps::TimestampMillisecondType;
+use column::stamps::TimestampNanosecondType;
+use column::stamps::TimestampSecondType;
+use column::times::Time32MillisecondType;
+use column::times::Time32SecondType;
+use column::times::Time64MicrosecondType;
+use column::times::Time64NanosecondType;
+use interval::IntervalParseConfig;
+use interval::UnitRead;
+use interval::parse_interval_day_time;
+use interval::parse_interval_month_day_nano;
+use interval::parse_interval_month_day_nano_config;
+use interval::parse_interval_year_month;
+use time::string_to_time_nanoseconds;
+use timestamp::site::site_stamp;
+use timestamp::stamp::string_to_timestamp_nanos;
+ghost use Rattle.column.specs.Columns.{column, TimestampNanosecond, TimestampMicrosecond, TimestampMillisecond, TimestampSecond, Time64Nanosecond, Time64Microsecond, Time32Millisecond, Time32Second, Date32, Date64};
+ghost use Rattle.interval.specs.Answer.{dayTime, dayTimeOf, plainMonthDayNano, yearMonth};
+ghost use Rattle.interval.specs.Contribution.{counts};
+ghost use Rattle.interval.specs.Grammar.{precision};
+ghost use Rattle.time.specs.Answer.{timeNanos};
+ghost use Rattle.timestamp.specs.Answer.{stampNanos};
+ghost use Rattle.timestamp.specs.Site.{siteNanos};
+ghost use Rattle.cullpethi.specs.Cells.{Told, inUnit, unitNumbered};
+
+mod cells;
+mod units;
+
+// A stamp, in nanoseconds since 1970-01-01.
+#[no_mangle]
+pub extern "C" fn cullpethi_string_to_timestamp_nanos(text: &[u8], nanos: &mut i64) -> u8
+    ensures { λ r. ⌜ Told (stampNanos (now (text .entry))) r (now (nanos .entry)) (now (nanos .exit)) ⌝ }
+{
+    put64(string_to_timestamp_nanos(text), nanos)
+}
+
+// A time of day, in nanoseconds since midnight.
+#[no_mangle]
+pub extern "C" fn cullpethi_string_to_time_nanoseconds(text: &[u8], nanos: &mut i64) -> u8
+    ensures { λ r. ⌜ Told (timeNanos (now (text .entry))) r (now (nanos .entry)) (now (nanos .exit)) ⌝ }
+{
+    put64(string_to_time_nanoseconds(text), nanos)
+}
+
+// A site stamp, in nanoseconds since 1970-01-01.
+#[no_mangle]
+pub extern "C" fn cullpethi_site_stamp(text: &[u8], nanos: &mut i64) -> u8
+    ensures { λ r. ⌜ Told (siteNanos (now (text .entry))) r (now (nanos .entry)) (now (nanos .exit)) ⌝ }
+{
+    put64(site_stamp(text), nanos)
+}
+
+// A timestamp column in nanoseconds.
+#[no_mangle]
+pub extern "C" fn cullpethi_parse_timestamp_nanosecond(text: &[u8], nanos: &mut i64) -> u8
+    ensures { λ r. ⌜ Told (column TimestampNanosecond (now (text .entry))) r (now (nanos .entry)) (now (nanos .exit)) ⌝ }
+{
+    put64(TimestampNanosecondType::parse(text), nanos)
+}
+
+// A timestamp column in microseconds.
+#[no_mangle]
+pub extern "C" fn cullpethi_parse_timestamp_microsecond(text: &[u8], micros: &mut i64) -> u8
+    ensures { λ r. ⌜ Told (column TimestampMicrosecond (now (text .entry))) r (now (micros .entry)) (now (micros .exit)) ⌝ }
+{
+    put64(TimestampMicrosecondType::parse(text), micros)
+}
+
+// A timestamp column in milliseconds.
+#[no_mangle]
+pub extern "C" fn cullpethi_parse_timestamp_millisecond(text: &[u8], millis: &mut i64) -> u8
+    ensures { λ r. ⌜ Told (column TimestampMillisecond (now (text .entry))) r (now (millis .entry)) (now (millis .exit)) ⌝ }
+{
+    put64(TimestampMillisecondType::parse(text), millis)
+}
+
+// A timestamp column in seconds.
+#[no_mangle]
+pub extern "C" fn cullpethi_parse_timestamp_second(text: &[u8], seconds: &mut i64) -> u8
+    ensures { λ r. ⌜ Told (column TimestampSecond (now (text .entry))) r (now (seconds .entry)) (now (seconds .exit)) ⌝ }
+{
+    put64(TimestampSecondType::parse(text), seconds)
+}
+
+// A time column in nanoseconds.
+#[no_mangle]
+pub extern "C" fn cullpethi_parse_time64_nanosecond(text: &[u8], nanos: &mut i64) -> u8
+    ensures { λ r. ⌜ Told (column Time64Nanosecond (now (text .entry))) r (now (nanos .entry)) (now (nanos .exit)) ⌝ }
+{
+    put64(Time64NanosecondType::parse(text), nanos)
+}
+
+// A time column in microseconds.
+#[no_mangle]
+pub extern "C" fn cullpethi_parse_time64_microsecond(text: &[u8], micros: &mut i64) -> u8
+    ensures { λ r. ⌜ Told (column Time64Microsecond (now (text .entry))) r (now (micros .entry)) (now (micros .exit)) ⌝ }
+{
+    put64(Time64MicrosecondType::parse(text), micros)
+}
+
+// A date column in milliseconds since 1970-01-01.
+#[no_mangle]
+pub extern "C" fn cullpethi_parse_date64(text: &[u8], millis: &mut i64) -> u8
+    ensures { λ r. ⌜ Told (column Date64 (now (text .entry))) r (now (millis .entry)) (now (millis .exit)) ⌝ }
+{
+    put64(Date64Type::parse(text), millis)
+}
+
+// A time column in milliseconds, of 32 bits.
+#[no_mangle]
+pub extern "C" fn cullpethi_parse_time32_millisecond(text: &[u8], millis: &mut i32) -> u8
+    ensures { λ r. ⌜ Told (column Time32Millisecond (now (text .entry))) r (now (millis .entry)) (now (millis .exit)) ⌝ }
+{
+    put32(Time32MillisecondType::parse(text), millis)
+}
+
+// A time column in seconds, of 32 bits.
+#[no_mangle]
+pub extern "C" fn cullpethi_parse_time32_second(text: &[u8], seconds: &mut i32) -> u8
+    ensures { λ r. ⌜ Told (column Time32Second (now (text .entry))) r (now (seconds .entry)) (now (seconds .exit)) ⌝ }
+{
+    put32(Time32SecondType::parse(text), seconds)
+}
+
+// A date column in days since 1970-01-01.
+#[no_mangle]
+pub extern "C" fn cullpethi_parse_date32(text: &[u8], days: &mut i32) -> u8
+    ensures { λ r. ⌜ Told (column Date32 (now (text .entry))) r (now (days .entry)) (now (days .exit)) ⌝ }
+{
+    put32(Date32Type::parse(text), days)
+}
+
+// An interval in months; years are the default unit.
+#[no_mangle]
+pub extern "C" fn cullpethi_parse_interval_year_month(text: &[u8], months: &mut i32) -> u8
+    ensures { λ r. ⌜ Told (yearMonth precision (now (text .entry))) r (now (months .entry)) (now (months .exit)) ⌝ }
+{
+    put32(parse_interval_year_month(text), months)
+}
+
+// An interval in days and milliseconds; days are the default unit.
+#[no_mangle]
+pub extern "C" fn cullpethi_parse_interval_day_time(
+    text: &[u8],
+    days: &mut i32,
+    millis: &mut i32,
+) -> u8
+    ensures { λ r. ⌜ Told (dayTime precision (now (text .entry))) r (dayTimeOf (now (days .entry)) (now (millis .entry))) (dayTimeOf (now (days .exit)) (now (millis .exit))) ⌝ }
+{
+    put_day_time(parse_interval_day_time(text), days, millis)
+}
+
+// An interval in months, days and nanoseconds; months are the default unit.
+#[no_mangle]
+pub extern "C" fn cullpethi_parse_interval_month_day_nano(
+    text: &[u8],
+    months: &mut i32,
+    days: &mut i32,
+    nanos: &mut i64,
+) -> u8
+    ensures { λ r. ⌜ Told (plainMonthDayNano precision (now (text .entry))) r (counts (now (months .entry)) (now (days .entry)) (now (nanos .entry))) (counts (now (months .exit)) (now (days .exit)) (now (nanos .exit))) ⌝ }
+{
+    put_interval(parse_interval_month_day_nano(text), months, days, nanos)
+}
+
+// The same with a default unit by its number, 0 century to 11 nanosecond; 255 where there is no such unit.
+#[no_mangle]
+pub extern "C" fn cullpethi_parse_interval_month_day_nano_config(
+    text: &[u8],
+    default_unit: u8,
+    months: &mut i32,
+    days: &mut i32,
+    nanos: &mut i64,
+) -> u8
+    ensures { λ r. ⌜ Told (inUnit (unitNumbered «default_unit») (now (text .entry))) r (counts (now (months .entry)) (now (days .entry)) (now (nanos .entry))) (counts (now (months .exit)) (now (days .exit)) (now (nanos .exit))) ⌝ }
+{
+    match units::unit_numbered(default_unit) {
+        UnitRead::Unit(unit) => put_interval(
+            parse_interval_month_day_nano_config(text, IntervalParseConfig::new(unit)),
+            months,
+            days,
+            nanos,
+        ),
+        UnitRead::None => 255,
+    }
+}

@@ -1,0 +1,108 @@
+/* Readers of dates, times of day, timestamps and intervals, proved in Rattle. Link with libcullpethi.a.
+ *
+ * Each function returns CULLPETHI_OK and writes its cells, or returns a refusal's number and leaves every cell as it was. A text is `len`
+ * bytes at `text`: it needs no end mark, and is neither altered nor read past its end. Where `len` is 0, `text` may be any pointer but
+ * NULL. Each cell is aligned, and apart from the other cells and from the text. A call touches no other memory of the caller, keeps
+ * nothing and allocates nothing, so any number of threads may call.
+ */
+#ifndef CULLPETHI_H
+#define CULLPETHI_H
+
+#include <stddef.h>
+#include <stdint.h>
+
+#ifdef __cplusplus
+extern "C" {
+#endif
+
+/* What a function returns: the refusals in the order in which they are looked for. */
+enum cullpethi_status {
+    CULLPETHI_OK = 0,            /* the text is read, and the cells are written */
+    CULLPETHI_NOT_UTF8 = 1,      /* the bytes are not well-formed UTF-8 */
+    CULLPETHI_DATE = 2,          /* no date: no shape of one, no day of the calendar, or a stamp of fewer than 10 bytes */
+    CULLPETHI_SEPARATOR = 3,     /* byte 10 of a longer stamp is not T, t or a space */
+    CULLPETHI_TIME = 4,          /* no time part of a stamp, or a field of it is out of range */
+    CULLPETHI_TAIL = 5,          /* bytes remain after the time that are not a single final z or Z */
+    CULLPETHI_RANGE = 6,         /* the nanoseconds do not fit 64 signed bits, or the day number does not fit 32 */
+    CULLPETHI_TIME_OF_DAY = 7,   /* neither a time of day nor, for a time column, an integer of its width */
+    CULLPETHI_INTERVAL = 8,      /* an interval text has no division */
+    CULLPETHI_REPEATED_UNIT = 9, /* a unit comes twice */
+    CULLPETHI_OVERFLOW = 10,     /* a contribution or a running total of an interval does not fit */
+    CULLPETHI_NARROWED = 11,     /* the narrowed interval form cannot hold the result */
+    CULLPETHI_SITE_STAMP = 12,   /* a stamp, but no site stamp */
+    CULLPETHI_NO_UNIT = 255      /* the number of a default unit is none of cullpethi_unit */
+};
+
+/* The default unit of an interval: that of a last amount without one. */
+enum cullpethi_unit {
+    CULLPETHI_CENTURY = 0,
+    CULLPETHI_DECADE = 1,
+    CULLPETHI_YEAR = 2,
+    CULLPETHI_MONTH = 3,
+    CULLPETHI_WEEK = 4,
+    CULLPETHI_DAY = 5,
+    CULLPETHI_HOUR = 6,
+    CULLPETHI_MINUTE = 7,
+    CULLPETHI_SECOND = 8,
+    CULLPETHI_MILLISECOND = 9,
+    CULLPETHI_MICROSECOND = 10,
+    CULLPETHI_NANOSECOND = 11
+};
+
+/* A stamp in UTC, in nanoseconds since 1970-01-01: 2020-09-08T13:42:29.190855Z, 2020-09-08 13:42:29, 2020-09-08. */
+uint8_t cullpethi_string_to_timestamp_nanos(const uint8_t *text, size_t len, int64_t *nanos);
+
+/* A time of day, in nanoseconds since midnight: 09:26:56.123 AM, 23:59:59, 6:00 pm. */
+uint8_t cullpethi_string_to_time_nanoseconds(const uint8_t *text, size_t len, int64_t *nanos);
+
+/* A site stamp, in nanoseconds since 1970-01-01: 2026-03-01T06:30:00Z, with a point and 1 to 9 digits if need be. */
+uint8_t cullpethi_site_stamp(const uint8_t *text, size_t len, int64_t *nanos);
+
+/* A timestamp column: a stamp, as given or trimmed, in nanoseconds. */
+uint8_t cullpethi_parse_timestamp_nanosecond(const uint8_t *text, size_t len, int64_t *nanos);
+
+/* The same in microseconds, cut toward zero. */
+uint8_t cullpethi_parse_timestamp_microsecond(const uint8_t *text, size_t len, int64_t *micros);
+
+/* The same in milliseconds, cut toward zero. */
+uint8_t cullpethi_parse_timestamp_millisecond(const uint8_t *text, size_t len, int64_t *millis);
+
+/* The same in seconds, cut toward zero. */
+uint8_t cullpethi_parse_timestamp_second(const uint8_t *text, size_t len, int64_t *seconds);
+
+/* A time column: a time of day in nanoseconds; failing that, the text as an integer of 64 bits; failing that, a time once trimmed. */
+uint8_t cullpethi_parse_time64_nanosecond(const uint8_t *text, size_t len, int64_t *nanos);
+
+/* The same in microseconds; an integer stands as it is. */
+uint8_t cullpethi_parse_time64_microsecond(const uint8_t *text, size_t len, int64_t *micros);
+
+/* A date column in milliseconds since 1970-01-01: up to 10 bytes a date, beyond that a stamp, rounded down; never trimmed. */
+uint8_t cullpethi_parse_date64(const uint8_t *text, size_t len, int64_t *millis);
+
+/* A time column in milliseconds, or an integer of 32 bits. */
+uint8_t cullpethi_parse_time32_millisecond(const uint8_t *text, size_t len, int32_t *millis);
+
+/* A time column in seconds, or an integer of 32 bits. */
+uint8_t cullpethi_parse_time32_second(const uint8_t *text, size_t len, int32_t *seconds);
+
+/* A date column in days since 1970-01-01: the day of a date or of a stamp, as given or trimmed. */
+uint8_t cullpethi_parse_date32(const uint8_t *text, size_t len, int32_t *days);
+
+/* An interval in months, where it has no days and no nanoseconds; years are the default unit. */
+uint8_t cullpethi_parse_interval_year_month(const uint8_t *text, size_t len, int32_t *months);
+
+/* An interval in days, 30 to a month, and milliseconds; days are the default unit. */
+uint8_t cullpethi_parse_interval_day_time(const uint8_t *text, size_t len, int32_t *days, int32_t *millis);
+
+/* An interval in months, days and nanoseconds; months are the default unit. */
+uint8_t cullpethi_parse_interval_month_day_nano(const uint8_t *text, size_t len, int32_t *months, int32_t *days, int64_t *nanos);
+
+/* The same with a default unit of cullpethi_unit. */
+uint8_t cullpethi_parse_interval_month_day_nano_config(const uint8_t *text, size_t len, uint8_t default_unit, int32_t *months,
+                                                       int32_t *days, int64_t *nanos);
+
+#ifdef __cplusplus
+}
+#endif
+
+#endif
