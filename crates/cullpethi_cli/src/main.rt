@@ -91,6 +91,7 @@ fn text_or_lines(at: usize, reader: Reader) -> u8 {
     one_text(at, reader)
 }
 
+// The argument is there, so all that can be wrong is its length.
 fn one_text(at: usize, reader: Reader) -> u8 {
     let mut space = io::large_buffer();
     let n = os::arg(at, &mut space);
