@@ -47,6 +47,9 @@ pub struct IntervalMonthDayNano {
     pub nanoseconds: i64,
 }
 
+/// The same, by its short name.
+pub type MonthDayNano = IntervalMonthDayNano;
+
 /// An interval in months, where it has no days and no nanoseconds; years are the default unit.
 ///
 /// ```
