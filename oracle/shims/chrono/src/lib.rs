@@ -49,7 +49,6 @@ pub mod prelude {
 #[cfg(test)]
 mod tests {
     use super::prelude::*;
-    use super::*;
 
     #[test]
     fn midnight() {
