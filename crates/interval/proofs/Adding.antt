@@ -13,7 +13,7 @@ use mir.Val.{SFits, hbits, toZ}
 use mir.Facts.{toZ-ofZ, toZ-pos}
 use Rattle.text.proofs.Bools.{by-test}
 use Rattle.number.specs.Widths.{inSigned, signed, fit}
-use Rattle.number.proofs.Zed.{P, N, P-neg, N-neg, add-pn, mul-P, mul-N, lt-yes, lt-no, eq-of, fits-of}
+use Rattle.number.proofs.Zed.{abs-neg, P, N, P-neg, N-neg, add-pn, mul-P, mul-N, lt-yes, lt-no, eq-of, fits-of}
 use Rattle.number.proofs.Ranges.{rd, fit-yes, fit-above, fit-below}
 use Rattle.number.proofs.Sizes.{too-large}
 use Rattle.interval.specs.Grammar.{precision}
@@ -55,19 +55,11 @@ size-pn (negsuc n) = omega arith
 
 abs-mul : (z : ℤ) (a : ℕ) → natAbs (z *ℤ pos a) ≡ natAbs z * a
 abs-mul (pos n) a = refl
-abs-mul (negsuc n) a = abs-minus (suc n * a)
-  where
-    abs-minus : (m : ℕ) → natAbs (negℤ (pos m)) ≡ m
-    abs-minus zero = refl
-    abs-minus (suc m) = refl
+abs-mul (negsuc n) a = abs-neg (suc n * a)
 
 abs-quot : (z : ℤ) (c : ℕ) → natAbs (quotZ z (pos c)) ≡ natAbs z / c
 abs-quot (pos n) c = refl
-abs-quot (negsuc n) c = abs-minus (suc n / c)
-  where
-    abs-minus : (m : ℕ) → natAbs (negℤ (pos m)) ≡ m
-    abs-minus zero = refl
-    abs-minus (suc m) = refl
+abs-quot (negsuc n) c = abs-neg (suc n / c)
 
 size-of : (z : ℤ) {m : ℕ} → P z ≤ N z + m → N z ≤ P z + m → natAbs z ≤ m
 size-of (pos n) h l = omega arith

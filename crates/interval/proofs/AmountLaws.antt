@@ -1,6 +1,6 @@
 -- Amounts in a text: an amount is measured to its end, what is measured is an amount, and what an amount says is read off its digits.
 -- Assumes nothing.
-use mathlib.Core.Path.{_≡_, refl, ap, _∙_}
+use mathlib.Core.Path.{_≡_, refl, _∙_}
 use mathlib.Core.Bool.{Bool, true, false, cond, false≢true}
 use mathlib.Core.Logic.{_⊎_, inl, inr, ⊎-elim}
 use mathlib.Core.List.{List, [], _∷_, _++_, append-assoc, append-nil}
@@ -13,6 +13,7 @@ use borrow.Author.Tests.{eqb-true, ne-eqb, ltb-true, lt-ltb}
 use Rattle.text.specs.Digits.{within, isDigit, digits, value, run}
 use Rattle.text.specs.Utf8.{Utf8}
 use Rattle.text.proofs.Bools.{and-left, and-right, by-test, within-yes, within-is}
+use Rattle.text.proofs.Runs.{run-all}
 use Rattle.number.specs.Decimal.{Digits, one-or-more}
 use Rattle.interval.specs.Grammar.{Sign, no-sign, minus, wholeFits, Whole, Fraction, Amount, whole, decimal, fraction}
 use Rattle.interval.specs.Division.{negative, signLen, pointLen, digitsLen, amountLen}
@@ -34,13 +35,6 @@ one-of [] e h = absurd (omega arith)
 one-of (b ∷ t) e h = one-or-more (and-left (isDigit b) (digits t) e) (and-right (isDigit b) (digits t) e)
 
 -- digits run as far as they go
-digit-run : (d x : List ℕ) → digits d ≡ true → isDigit (getD x 0 0) ≡ false → run (d ++ x) ≡ length d
-unfolding run digits
-digit-run [] [] D e = refl
-digit-run [] (b ∷ x) D e = rw e
-digit-run (b ∷ d) x D e =
-    rw (and-left (isDigit b) (digits d) D) (ap suc (digit-run d x (and-right (isDigit b) (digits d) D) e))
-
 pub run-is : (t : List ℕ) → (digits (take (run t) t) ≡ true) × (run t ≤ length t)
 unfolding run digits
 run-is [] = (refl, omega arith)
@@ -110,7 +104,7 @@ module _ (n : ℕ) {s : List ℕ} {neg : Bool} (S : Sign s neg) (d : List ℕ) (
   whole-run : 0 < length d → amountLen n ((s ++ d) ++ x) ≡ length (s ++ d)
   unfolding digitsLen pointLen Breaks
   whole-run p =
-      rw (append-assoc s d x, sign-len S (d ++ x) (not-minus d x D (br .2)) n, digit-run d x D (br .0), take-append-seam d x, drop-append-seam d x, fit, br .1, lt-ltb 0 (length d) p, length-append s d, sign-length S)
+      rw (append-assoc s d x, sign-len S (d ++ x) (not-minus d x D (br .2)) n, run-all d x D (br .0), take-append-seam d x, drop-append-seam d x, fit, br .1, lt-ltb 0 (length d) p, length-append s d, sign-length S)
 
   point-run : (f : List ℕ) → Fraction n f → amountLen n ((s ++ (d ++ (0x2E ∷ f))) ++ x) ≡ length (s ++ (d ++ (0x2E ∷ f)))
   unfolding digitsLen pointLen Breaks
@@ -119,11 +113,11 @@ module _ (n : ℕ) {s : List ℕ} {neg : Bool} (S : Sign s neg) (d : List ℕ) (
         append-assoc s (d ++ (0x2E ∷ f)) x,
         append-assoc d (0x2E ∷ f) x,
         sign-len S (d ++ (0x2E ∷ (f ++ x))) (not-minus d (0x2E ∷ (f ++ x)) D refl) n,
-        digit-run d (0x2E ∷ (f ++ x)) D refl,
+        run-all d (0x2E ∷ (f ++ x)) D refl,
         take-append-seam d (0x2E ∷ (f ++ x)),
         drop-append-seam d (0x2E ∷ (f ++ x)),
         fit,
-        digit-run f x (all-digits (F .written)) (br .0),
+        run-all f x (all-digits (F .written)) (br .0),
         within-yes 1 (length f) n (some-digits (F .written)) (F .most),
         length-append s (d ++ (0x2E ∷ f)),
         length-append d (0x2E ∷ f),
@@ -206,14 +200,14 @@ module _ (n : ℕ) {s : List ℕ} {neg : Bool} (S : Sign s neg) where
   of-digits : (d : List ℕ) → digits d ≡ true → amountOf n (s ++ d) ≡ valued neg (value 0 d) 0
   unfolding unsignedOf fracOf
   of-digits d D =
-      let k : run d ≡ length d = rw append-nil at (digit-run d [] D refl) in
+      let k : run d ≡ length d = rw append-nil at (run-all d [] D refl) in
       let m : negative d ≡ false = rw append-nil at (not-minus d [] D refl) in
       rw (sign-of S d m n, k, take-length d, drop-length d)
 
   of-point : (d f : List ℕ) → digits d ≡ true → amountOf n (s ++ (d ++ (0x2E ∷ f))) ≡ valued neg (value 0 d) (value 0 f * 10 ^ (n - length f))
   unfolding unsignedOf fracOf
   of-point d f D =
-      rw (sign-of S (d ++ (0x2E ∷ f)) (not-minus d (0x2E ∷ f) D refl) n, digit-run d (0x2E ∷ f) D refl, take-append-seam d (0x2E ∷ f), drop-append-seam d (0x2E ∷ f))
+      rw (sign-of S (d ++ (0x2E ∷ f)) (not-minus d (0x2E ∷ f) D refl) n, run-all d (0x2E ∷ f) D refl, take-append-seam d (0x2E ∷ f), drop-append-seam d (0x2E ∷ f))
 
   -- each form of an amount says what it looks like
   pub whole-says : {d : List ℕ} → Whole neg d → amountOf n (s ++ d) ≡ valued neg (value 0 d) 0

@@ -17,7 +17,7 @@ use Rattle.text.specs.Utf8.{utf8}
 use Rattle.text.proofs.Bools.{and-left, and-right, or-cases, both-ways, by-test}
 use Rattle.text.proofs.Utf8Agrees as Utf8Agrees
 use Rattle.number.specs.Widths.{inSigned}
-use Rattle.number.proofs.Zed.{eq-of, P-neg, N-neg, mul-P, mul-N}
+use Rattle.number.proofs.Zed.{abs-neg, eq-of, P-neg, N-neg, mul-P, mul-N}
 use Rattle.refusal.specs.Outcome.{Outcome, accepted, refused}
 use Rattle.interval.specs.Units.{rank}
 use Rattle.interval.specs.Grammar.{Component, Divides}
@@ -268,10 +268,6 @@ neg-quot : (m k : ℕ) → quotZ (negℤ (pos m)) (pos k) ≡ negℤ (pos (m / k
 neg-quot zero k = rw zero-div
 neg-quot (suc m) k = refl
 
-neg-abs : (m : ℕ) → natAbs (negℤ (pos m)) ≡ m
-neg-abs zero = refl
-neg-abs (suc m) = refl
-
 -- a multiple of 1,000,000
 quot-back : (k : ℤ) → quotZ (k *ℤ pos 1_000_000) (pos 1_000_000) ≡ k
 quot-back (pos a) = ap pos (omega arith)
@@ -281,7 +277,7 @@ quot-back (negsuc a) =
 
 no-rest : (k : ℤ) → natAbs (k *ℤ pos 1_000_000) % 1_000_000 ≡ 0
 no-rest (pos a) = omega arith
-no-rest (negsuc a) = omega (arith, neg-abs (suc a * 1_000_000))
+no-rest (negsuc a) = omega (arith, abs-neg (suc a * 1_000_000))
 
 multiple : (z : ℤ) → natAbs z % 1_000_000 ≡ 0 → z ≡ quotZ z (pos 1_000_000) *ℤ pos 1_000_000
 multiple (pos a) e = ap pos (omega arith)

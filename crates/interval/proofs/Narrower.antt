@@ -5,7 +5,7 @@ use mathlib.Core.Option.{Option, none, some, Option·none-ne-some}
 use Prim.Native.Nat.{ℕ, zero, suc, _%_, _^_}
 use native.Mathlib.Omega.{arith}
 use lib.Dec.{eqb}
-use lib.IntN.{ℤ, pos, negsuc, negℤ, natAbs, _+ℤ_, _*ℤ_}
+use lib.IntN.{ℤ, pos, negsuc, natAbs, _+ℤ_, _*ℤ_}
 use lib.Signed.{mag, quotZ, remZ}
 use lib.Pow.{pow-pos}
 use mir.Syntax.{Width, w32, w64}
@@ -14,6 +14,7 @@ use mir.Facts.{toZ-ofZ, toZ-pos}
 use borrow.Author.Tests.{eq-eqb, ne-eqb, ltb-true}
 use Rattle.text.proofs.Bools.{by-test, and-false}
 use Rattle.number.specs.Widths.{inSigned, fit}
+use Rattle.number.proofs.Zed.{abs-neg}
 use Rattle.number.proofs.Ranges.{rd}
 use Rattle.number.proofs.Quotients.{quot-fits}
 use Rattle.refusal.specs.Outcome.{Outcome, accepted, refused}
@@ -92,11 +93,7 @@ module _ {m d : ℤ} (fm : SFits w32 m) (fd : SFits w32 d) where
 
 rem-size : (z : ℤ) (k : ℕ) → natAbs (remZ z (pos k)) ≡ natAbs z % k
 rem-size (pos n) k = refl
-rem-size (negsuc n) k = minus (suc n % k)
-  where
-    minus : (m : ℕ) → natAbs (negℤ (pos m)) ≡ m
-    minus zero = refl
-    minus (suc m) = refl
+rem-size (negsuc n) k = abs-neg (suc n % k)
 
 module _ {n : ℤ} (f : SFits w64 n) where
   rest-small : SFits w64 (remZ n (pos 1_000_000))

@@ -120,6 +120,10 @@ pub nonneg-of : (z : ℤ) → N z ≤ P z → T (nonNeg z)
 nonneg-of (pos n) h = tt
 nonneg-of (negsuc n) h = absurd (omega arith)
 
+pub abs-neg : (n : ℕ) → natAbs (negℤ (pos n)) ≡ n
+abs-neg zero = refl
+abs-neg (suc n) = refl
+
 pub abs-up : (z : ℤ) → N z ≤ P z → natAbs z + N z ≡ P z
 abs-up (pos n) h = omega arith
 abs-up (negsuc n) h = absurd (omega arith)

@@ -3,6 +3,7 @@ pub mod Bools
 pub mod Computed
 pub mod DigitLaws
 pub mod Parts
+pub mod Runs
 pub mod Utf8Rows
 pub mod Utf8Steps
 pub mod Utf8Agrees

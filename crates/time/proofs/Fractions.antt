@@ -16,7 +16,7 @@ use Rattle.text.proofs.TwoDigits.{sign}
 use Rattle.text.proofs.Parts.{rest}
 use Rattle.timestamp.specs.Clock.{nanosFrom, nanosOf}
 use Rattle.timestamp.proofs.Nanos.{led, short-of}
-use Rattle.timestamp.proofs.Shapes.{run-digits, run-all}
+use Rattle.text.proofs.Runs.{run-all, run-digits}
 use Rattle.timestamp.proofs.Agreement.{none-some}
 use Rattle.time.specs.Answer.{fractionOf}
 

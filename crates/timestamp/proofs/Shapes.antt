@@ -8,10 +8,10 @@ use Prim.Native.Nat.{ℕ, suc, _+_, _-_, _*_, _<_}
 use native.Mathlib.Omega.{arith}
 use native.Mathlib.Numerals.{sub-one}
 use lib.Dec.{ltb, eqb}
-use lib.ListN.{length, getD, take, drop, length-append, List·getD-eq-default}
+use lib.ListN.{length, getD, drop, length-append, List·getD-eq-default}
 use lib.Seq.{getD-append-add}
 use borrow.Author.Tests.{ltb-true, ltb-false, eqb-true, ne-eqb}
-use Rattle.text.specs.Digits.{isDigit, worth, digits, value, run}
+use Rattle.text.specs.Digits.{isDigit, worth, digits, value}
 use Rattle.text.proofs.Bools.{and-left, and-right, by-test, both-ways, within-is}
 use Rattle.timestamp.specs.Grammar.{Figures, figures, Secfrac, no-fraction, fraction}
 
@@ -95,20 +95,6 @@ sign-inside t i c e =
 
 pub not-sign : (b c : ℕ) → isDigit b ≡ true → (c < 0x30) ⊎ (0x39 < c) → eqb b c ≡ false
 not-sign b c e h = ne-eqb b c (λ q. let w = within-is 0x30 b 0x39 e in ⊎-elim (λ l. omega arith) (λ l. omega arith) h)
-
--- ---- digits before what is none
-
-pub run-all : (f e : List ℕ) → digits f ≡ true → isDigit (getD e 0 0) ≡ false → run (f ++ e) ≡ length f
-unfolding run digits
-run-all [] [] p q = refl
-run-all [] (b ∷ e) p q = rw q
-run-all (b ∷ f) e p q = rw (and-left (isDigit b) (digits f) p) (ap suc (run-all f e (and-right (isDigit b) (digits f) p) q))
-
--- a run is digits
-pub run-digits : (t : List ℕ) → digits (take (run t) t) ≡ true
-unfolding run digits
-run-digits [] = refl
-run-digits (b ∷ t) = by-test (isDigit b) (λ e. rw e (rw e (run-digits t))) (λ e. rw e)
 
 -- ---- the last byte
 
