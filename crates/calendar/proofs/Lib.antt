@@ -6,3 +6,4 @@ pub mod Dates
 pub mod Days
 pub mod Readings
 pub mod Bounds
+pub mod Rule

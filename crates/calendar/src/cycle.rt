@@ -440,6 +440,38 @@ pub fn year_of_cycle(y: usize) -> Year
     }
 }
 
+// An entry of the table by the rule of leap years: every fourth has a day more, but of the centuries only the first.
+fn start_by_rule(y: u32) -> u32
+    requires { ⌜ y < 401 ⌝ }
+    ensures { λ r. ⌜ r ≡ starts y ⌝ }
+{
+    365 * y + (y + 3) / 4 - (y + 99) / 100 + (y + 399) / 400
+}
+
+// The same year without the table, which takes longer to build than the rest of a date takes to read.
+fn year_by_rule(y: u32) -> Year
+    requires { ⌜ y < 400 ⌝ }
+    ensures { λ r. ⌜ (r .start ≡ starts y) × (r .days ≡ yearDays (pos y)) ⌝ }
+{
+    let first = start_by_rule(y);
+    let next = start_by_rule(y + 1);
+    Year {
+        start: first,
+        days: next - first,
+    }
+}
+
+// The year of the cycle that a year is: years of four digits, as nearly all are, go by the rule.
+pub fn year_at(year: i32, y: usize) -> Year
+    requires { ⌜ y < 400 ⌝ }
+    ensures { λ r. ⌜ (r .start ≡ starts y) × (r .days ≡ yearDays (pos y)) ⌝ }
+{
+    if (0 <= year) & (year <= 9999) {
+        return year_by_rule(y as u32);
+    }
+    year_of_cycle(y)
+}
+
 // The days of the year before a month, 13 being the next January.
 pub fn days_before(leap: bool, month: u32) -> u32
     requires { ⌜ (1 ≤ month) × (month < 14) ⌝ }

@@ -21,7 +21,7 @@ pub fn days_from_ymd(year: i32, month: u32, day_of_month: u32) -> Day
         return Day::None;
     }
     let n = cycle::counted(year);
-    let y = cycle::year_of_cycle((n % 400) as usize);
+    let y = cycle::year_at(year, (n % 400) as usize);
     let leap = y.days == 366;
     let before = cycle::days_before(leap, month);
     let next = cycle::days_before(leap, month + 1);

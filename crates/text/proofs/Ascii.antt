@@ -1,21 +1,19 @@
 -- ASCII texts are well-formed UTF-8. Assumes nothing.
 use mathlib.Core.Path.{_≡_, refl, _∙_}
-use mathlib.Core.Bool.{Bool, true, _&&_}
+use mathlib.Core.Bool.{true, false, _&&_}
 use mathlib.Core.List.{List, [], _∷_, _++_}
-use Prim.Native.Nat.{ℕ, _<_}
+use Prim.Native.Nat.{ℕ, _+_, _≤_, _<_}
 use native.Mathlib.Omega.{arith}
+use native.Mathlib.Numerals.{add-one}
 use lib.Dec.{ltb}
-use borrow.Author.Tests.{lt-ltb, ltb-true}
+use lib.ListN.{getD, length, drop, drop-of-length-le}
+use lib.Seq.{drop-cons}
+use borrow.Author.Tests.{lt-ltb, le-ltb, ltb-true}
 use Rattle.text.specs.Digits.{isDigit, digits}
-use Rattle.text.specs.Utf8.{wellFormed, utf8}
+use Rattle.text.specs.Utf8.{wellFormed, utf8, ascii}
 use Rattle.text.proofs.Bools.{and-left, and-right, within-is}
 use Rattle.text.proofs.Utf8Rows.{row-00}
 use Rattle.text.proofs.Utf8Agrees.{lead}
-
--- every byte is below 80
-unfoldable pub ascii : List ℕ → Bool
-ascii [] = true
-ascii (b ∷ t) = ltb b 0x80 && ascii t
 
 pub ascii-cons : (b : ℕ) (t : List ℕ) → b < 0x80 → ascii t ≡ true → ascii (b ∷ t) ≡ true
 unfolding ascii
@@ -44,3 +42,17 @@ ascii-utf8 [] e = refl
 ascii-utf8 (b ∷ t) e =
     let h = ltb-true b 0x80 (and-left (ltb b 0x80) (ascii t) e) in
     lead 0x80 0xBF b t 0 0x80 0xBF (row-00 b (omega arith)) ∙ ascii-utf8 t (and-right (ltb b 0x80) (ascii t) e)
+
+-- ---- from the front, byte by byte
+
+pub ascii-on : (s : List ℕ) (i : ℕ) → i < length s → getD s i 0 < 0x80 → ascii (drop i s) ≡ ascii (drop (i + 1) s)
+unfolding ascii
+ascii-on s i h b = rw (drop-cons s i 0 h, add-one, lt-ltb (getD s i 0) 0x80 b)
+
+pub ascii-off : (s : List ℕ) (i : ℕ) → i < length s → 0x80 ≤ getD s i 0 → ascii (drop i s) ≡ false
+unfolding ascii
+ascii-off s i h b = rw (drop-cons s i 0 h, le-ltb (getD s i 0) 0x80 b)
+
+pub ascii-end : (s : List ℕ) (i : ℕ) → length s ≤ i → ascii (drop i s) ≡ true
+unfolding ascii
+ascii-end s i h = rw (drop-of-length-le s h)

@@ -58,3 +58,8 @@ wellFormed (suc n) low high (b ∷ t) = within low b high && wellFormed n 0x80 0
 -- the text is well-formed UTF-8
 abbrev pub utf8 : List ℕ → Bool
 utf8 t = wellFormed 0 0x80 0xBF t
+
+-- every byte is below 80
+unfoldable pub ascii : List ℕ → Bool
+ascii [] = true
+ascii (b ∷ t) = ltb b 0x80 && ascii t

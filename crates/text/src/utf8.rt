@@ -2,7 +2,7 @@
 use crate::Follow;
 ghost use mathlib.Core.Path.{_≡_};
 ghost use Prim.Native.Nat.{_≤_, _<_};
-ghost use Rattle.text.specs.Utf8.{table, follows, utf8};
+ghost use Rattle.text.specs.Utf8.{table, follows, utf8, ascii};
 
 // What must follow the first byte of a character.
 pub fn follow(b: u8) -> Follow
@@ -35,8 +35,32 @@ pub fn follow(b: u8) -> Follow
     follow_three(b)
 }
 
-// Rust's `str::from_utf8`, as a test.
+// Rust's `str::from_utf8`, as a test. Nearly all texts are ASCII, which is quicker to tell.
 pub fn is_utf8(s: &[u8]) -> bool
+    ensures { λ r. ⌜ r ≡ utf8 (now (s .entry)) ⌝ }
+{
+    if is_ascii(s) {
+        return true;
+    }
+    is_well_formed(s)
+}
+
+// Rust's `is_ascii`.
+pub fn is_ascii(s: &[u8]) -> bool
+    ensures { λ r. ⌜ r ≡ ascii (now (s .entry)) ⌝ }
+{
+    let mut i = 0;
+    while i < s.len() {
+        if 0x80 <= s[i] {
+            return false;
+        }
+        i += 1;
+    }
+    true
+}
+
+// Byte by byte: how many bytes of a character are still to come, and the range of the next.
+fn is_well_formed(s: &[u8]) -> bool
     ensures { λ r. ⌜ r ≡ utf8 (now (s .entry)) ⌝ }
 {
     let mut count: u8 = 0;

@@ -14,9 +14,9 @@ use lib.IntN.{ℤ, pos}
 use borrow.Author.Tests.{eqb-true, le-leb, leb-true, le-ltb, ltb-false}
 use Rattle.refusal.specs.Outcome.{accepted}
 use Rattle.text.specs.Digits.{isDigit, worth, digits, value, twoDigits}
-use Rattle.text.specs.Utf8.{utf8}
+use Rattle.text.specs.Utf8.{utf8, ascii}
 use Rattle.text.proofs.Bools.{and-left, and-right, and-false, or-cases, by-test}
-use Rattle.text.proofs.Ascii.{ascii, ascii-nil, ascii-cons, ascii-append, ascii-utf8}
+use Rattle.text.proofs.Ascii.{ascii-nil, ascii-cons, ascii-append, ascii-utf8}
 use Rattle.timestamp.specs.Clock.{Clock, clock, inRange, nanosFrom, nanosOf, sinceMidnight}
 use Rattle.timestamp.specs.Grammar.{Figures, Secfrac, no-fraction, fraction}
 use Rattle.timestamp.proofs.Shapes.{all-digits, digits-head, by-one, by-two, one-figure, two-figures, one-value, two-value, not-sign, size-of, last-of, last-figure, seconds-end}

@@ -16,10 +16,10 @@ use Rattle.calendar.specs.Calendar.{civil}
 use Rattle.number.specs.Widths.{inSigned}
 use Rattle.refusal.specs.Outcome.{Outcome, accepted, refused, andThen}
 use Rattle.text.specs.Digits.{isDigit, digits, value, run, twoDigits, twoAt}
-use Rattle.text.specs.Utf8.{utf8}
+use Rattle.text.specs.Utf8.{utf8, ascii}
 use Rattle.text.proofs.Bools.{and-left, and-right, or-cases, by-test}
 use Rattle.text.proofs.Runs.{run-all, run-digits}
-use Rattle.text.proofs.Ascii.{ascii, ascii-nil, ascii-cons, ascii-append, ascii-digits, ascii-utf8}
+use Rattle.text.proofs.Ascii.{ascii-nil, ascii-cons, ascii-append, ascii-digits, ascii-utf8}
 use Rattle.timestamp.specs.Clock.{Clock, clock, inRange, nanosFrom, nanosOf, sinceMidnight}
 use Rattle.timestamp.specs.Grammar.{Figures, figures, Ymd, FullDate, full-date, Secfrac, no-fraction, fraction, PartialTime, colons, basic, Separator, capital, small, space, Ending, none-given, capital-z, small-z, Stamp, date-alone, date-time}
 use Rattle.timestamp.specs.Answer.{isDate, dayOf, hasColons, isBasic, Timed, timedAt, timed, afterSeconds, timeOf, isEnding, isSeparator, Moment, moment, instant, onTime, afterDate, onDate, plainMoment, datetime, inNanos, stampNanos}
