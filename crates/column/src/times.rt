@@ -26,13 +26,23 @@ pub struct Time32MillisecondType {}
 
 pub struct Time32SecondType {}
 
-// A time; failing that, an integer; failing that, a time once trimmed.
-fn found(s: &[u8], wide: bool) -> Found
-    ensures { λ r. ⌜ Finds r (λ k. timeColumn k (bitsOf wide) (now (s .entry))) ⌝ }
+// A time; failing that, an integer; failing that, a time once trimmed. One function for each width, so that the compiler lays each into
+// its columns and the text is not copied on the way.
+fn found_i64(s: &[u8]) -> Found
+    ensures { λ r. ⌜ Finds r (λ k. timeColumn k 64 (now (s .entry))) ⌝ }
 {
     match string_to_time_nanoseconds(s) {
         Read64::Value(n) => Found::Time(Read64::Value(n)),
-        Read64::Refused(_) => integer_or_trimmed(s, wide),
+        Read64::Refused(_) => integer_or_trimmed(s, true),
+    }
+}
+
+fn found_i32(s: &[u8]) -> Found
+    ensures { λ r. ⌜ Finds r (λ k. timeColumn k 32 (now (s .entry))) ⌝ }
+{
+    match string_to_time_nanoseconds(s) {
+        Read64::Value(n) => Found::Time(Read64::Value(n)),
+        Read64::Refused(_) => integer_or_trimmed(s, false),
     }
 }
 
@@ -61,7 +71,7 @@ impl Time64NanosecondType {
     pub fn parse(s: &[u8]) -> Read64
         ensures { λ r. ⌜ outcome64 r ≡ column Time64Nanosecond (now (s .entry)) ⌝ }
     {
-        match found(s, true) {
+        match found_i64(s) {
             Found::Time(nanos) => nanos,
             Found::Integer(z) => Read64::Value(z),
         }
@@ -72,7 +82,7 @@ impl Time64MicrosecondType {
     pub fn parse(s: &[u8]) -> Read64
         ensures { λ r. ⌜ outcome64 r ≡ column Time64Microsecond (now (s .entry)) ⌝ }
     {
-        match found(s, true) {
+        match found_i64(s) {
             Found::Time(nanos) => units::micros(nanos),
             Found::Integer(z) => Read64::Value(z),
         }
@@ -83,7 +93,7 @@ impl Time32MillisecondType {
     pub fn parse(s: &[u8]) -> Read32
         ensures { λ r. ⌜ outcome32 r ≡ column Time32Millisecond (now (s .entry)) ⌝ }
     {
-        match found(s, false) {
+        match found_i32(s) {
             Found::Time(nanos) => units::narrowed(units::millis(nanos)),
             Found::Integer(z) => units::narrowed(Read64::Value(z)),
         }
@@ -94,7 +104,7 @@ impl Time32SecondType {
     pub fn parse(s: &[u8]) -> Read32
         ensures { λ r. ⌜ outcome32 r ≡ column Time32Second (now (s .entry)) ⌝ }
     {
-        match found(s, false) {
+        match found_i32(s) {
             Found::Time(nanos) => units::narrowed(units::seconds(nanos)),
             Found::Integer(z) => units::narrowed(Read64::Value(z)),
         }

@@ -11,7 +11,8 @@ use text::white::byte_at;
 use timestamp::DateTime;
 ghost use mathlib.Core.Path.{_≡_};
 ghost use Rattle.calendar.specs.Calendar.{day};
-ghost use Rattle.refusal.specs.Outcome.{inUtf8, outcome32};
+ghost use Rattle.refusal.specs.Outcome.{accepted, andThen, inUtf8, outcome32};
+ghost use Rattle.timestamp.specs.Answer.{datetime};
 ghost use Rattle.date.specs.Answer.{signedDay, onDay, inDays, dayNamed, dateDays, namedIs};
 
 // The day that a text names: a signed date, a date of at most 10 bytes, or the date of a stamp.
@@ -26,6 +27,13 @@ pub fn parse_date(s: &[u8]) -> Named
     if s.len() <= 10 {
         return of_text(s, short::short_day(s));
     }
+    stamp_day(s)
+}
+
+// The date of a stamp.
+fn stamp_day(s: &[u8]) -> Named
+    ensures { λ r. ⌜ namedIs r ≡ andThen (datetime (now (s .entry))) (λ x. accepted (x .day)) ⌝ }
+{
     match timestamp::stamp::string_to_datetime(s) {
         DateTime::At(x) => Named::Day(x.day),
         DateTime::Refused(why) => Named::Refused(why),

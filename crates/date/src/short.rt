@@ -79,7 +79,11 @@ fn of_fields(century: u8, year: u8, month: u8, day_of_month: u8) -> Day
     ensures { λ r. ⌜ day r ≡ civil (pos (century * 100 + year)) month «day_of_month» ⌝ }
 {
     let whole_year = century as u32 * 100 + year as u32;
-    calendar::days_from_ymd(whole_year as i32, month as u32, day_of_month as u32)
+    // Taken apart and put together, since a copy of the whole would wait for the stores of its parts.
+    match calendar::days_from_ymd(whole_year as i32, month as u32, day_of_month as u32) {
+        Day::Number(z) => Day::Number(z),
+        Day::None => Day::None,
+    }
 }
 
 // No byte from a place on is a digit.

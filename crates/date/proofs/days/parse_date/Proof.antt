@@ -2,23 +2,15 @@
 use mathlib.Core.Path.{_≡_, sym, ap, _∙_}
 use mathlib.Core.Bool.{Bool}
 use lib.ListN.{getD}
-use mir.Syntax.{w64}
-use mir.Facts.{toZ-ofZ}
 use borrow.Author.Needs.{needs}
-use Rattle.timestamp.specs.Answer.{momentIs, datetime}
-use Rattle.date.specs.Answer.{isSign, dayNamed}
-use Rattle.date.proofs.Outcomes.{signed-form, short-form, stamp-form, itsDay}
+use Rattle.date.specs.Answer.{isSign}
+use Rattle.date.proofs.Outcomes.{signed-form, short-form, stamp-form}
 use Rattle.date.proofs.days.parse_date.Statement.{statement}
 use Rattle.date.proofs.days.parse_date.Tie as tie
 
 -- what the code's test of the first byte tells of the text
 first : (c : tie.After-byte-at) {t : Bool} → isSign (c .byte-at .result) ≡ t → isSign (getD (c .before .before .args .s .now) 0 0) ≡ t
 first c e = sym (ap isSign (c .byte-at .ensures)) ∙ e
-
-on-stamp : (c : tie.After-string-to-datetime) → itsDay (datetime (c .before .before .before .before .before .args .s .now)) ≡ dayNamed (c .before .before .before .before .before .args .s .now)
-on-stamp c =
-    let b = c .before .before .before in
-    stamp-form (b .before .before .args .s .now) (first b (c .before .before .if1 .left)) (c .before .if2 .left)
 
 byte-at-requires : tie.Need-byte-at-requires
 byte-at-requires c κs = search needs
@@ -49,27 +41,13 @@ returns-2 c =
     let s = b .before .before .args .s .now in
     c .of-text2 .ensures ∙ rw (d .short-day .ensures) (short-form s (first b (d .before .before .if1 .left)) (d .before .if2 .taken))
 
-string-to-datetime-requires : tie.Need-string-to-datetime-requires
-string-to-datetime-requires c κs = search needs
-
-enum-known-x : tie.Need-enum-known-x
-enum-known-x c = search needs
-
-enum-known-why : tie.Need-enum-known-why
-enum-known-why c = search needs
+stamp-day-requires : tie.Need-stamp-day-requires
+stamp-day-requires c κs = search needs
 
 returns-3 : tie.Need-returns-3
 returns-3 c =
-    let x = c .before .before in
-    let p = x .before .before in
-    rw (toZ-ofZ {w = w64} {z = x .x .given .0 .0 .day} (record { sfits = c .struct-told .given .0 .1 }))
-    (ap itsDay (sym (ap momentIs (x .x .given .1)) ∙ p .string-to-datetime .ensures) ∙ on-stamp p)
-
-returns-4 : tie.Need-returns-4
-returns-4 c =
-    let x = c .before in
-    let p = x .before .before in
-    ap itsDay (sym (ap momentIs (x .why .given .1)) ∙ p .string-to-datetime .ensures) ∙ on-stamp p
+    let b = c .before .before .before in
+    c .stamp-day .ensures ∙ stamp-form (b .before .before .args .s .now) (first b (c .before .before .if1 .left)) (c .before .if2 .left)
 
 pub parse-date-spec : {M : Type 1} → statement M
 parse-date-spec =
@@ -82,8 +60,5 @@ parse-date-spec =
     short-day-requires
     of-text-requires-2
     returns-2
-    string-to-datetime-requires
-    enum-known-x
-    enum-known-why
-    returns-3
-    returns-4)
+    stamp-day-requires
+    returns-3)

@@ -13,13 +13,13 @@ use Rattle.column.proofs.times.Time32MillisecondType.parse.Statement.{s
 use Rattle.column.proofs.times.Time32MillisecondType.parse.Tie as tie
 
 a-time : (c : tie.After-millis) → outcome64 (c .millis .result) ≡ timeColumn 1000000 32 (c .before .before .before .before .before .before .args .s .now)
-a-time c = c .millis .ensures ∙ sym (ap (foundIs 1000000) (c .before .before .nanos .given .1)) ∙ c .before .before .before .before .found .ensures 1000000
+a-time c = c .millis .ensures ∙ sym (ap (foundIs 1000000) (c .before .before .nanos .given .1)) ∙ c .before .before .before .before .found-i32 .ensures 1000000
 
 an-integer : (c : tie.After-known-told2) → accepted (rd w64 (c .before .z .given .0 .0)) ≡ timeColumn 1000000 32 (c .before .before .before .before .before .args .s .now)
-an-integer c = back {z = c .before .z .given .0 .0} (record { sfits = c .known-told2 .given .0 .1 }) (sym (ap (foundIs 1000000) (c .before .z .given .1)) ∙ c .before .before .before .found .ensures 1000000)
+an-integer c = back {z = c .before .z .given .0 .0} (record { sfits = c .known-told2 .given .0 .1 }) (sym (ap (foundIs 1000000) (c .before .z .given .1)) ∙ c .before .before .before .found-i32 .ensures 1000000)
 
-found-requires : tie.Need-found-requires
-found-requires c κs = search needs
+found-i32-requires : tie.Need-found-i32-requires
+found-i32-requires c κs = search needs
 
 enum-known-nanos : tie.Need-enum-known-nanos
 enum-known-nanos c = search needs
@@ -46,7 +46,7 @@ pub parse-spec : {M : Type 1} → statement M
 parse-spec =
     tie.close
     (tie.spec
-    found-requires
+    found-i32-requires
     enum-known-nanos
     millis-requires
     narrowed-requires

@@ -6,8 +6,8 @@ use borrow.Author.Needs.{needs}
 use Rattle.column.proofs.times.Time64MicrosecondType.parse.Statement.{statement}
 use Rattle.column.proofs.times.Time64MicrosecondType.parse.Tie as tie
 
-found-requires : tie.Need-found-requires
-found-requires c κs = search needs
+found-i64-requires : tie.Need-found-i64-requires
+found-i64-requires c κs = search needs
 
 enum-known-nanos : tie.Need-enum-known-nanos
 enum-known-nanos c = search needs
@@ -21,14 +21,14 @@ enum-known-z c = search needs
 returns : tie.Need-returns
 returns c =
     let x = c .before .before in
-    c .micros .ensures ∙ sym (ap (foundIs 1000) (x .nanos .given .1)) ∙ x .before .before .found .ensures 1000
+    c .micros .ensures ∙ sym (ap (foundIs 1000) (x .nanos .given .1)) ∙ x .before .before .found-i64 .ensures 1000
 
 returns-2 : tie.Need-returns-2
 returns-2 c =
     let x = c .before in
-    back {z = x .z .given .0 .0} (record { sfits = c .known-told2 .given .0 .1 }) (sym (ap (foundIs 1000) (x .z .given .1)) ∙ x .before .before .found .ensures 1000)
+    back {z = x .z .given .0 .0} (record { sfits = c .known-told2 .given .0 .1 }) (sym (ap (foundIs 1000) (x .z .given .1)) ∙ x .before .before .found-i64 .ensures 1000)
 
 pub parse-spec : {M : Type 1} → statement M
 parse-spec =
     tie.close
-    (tie.spec found-requires enum-known-nanos micros-requires enum-known-z returns returns-2)
+    (tie.spec found-i64-requires enum-known-nanos micros-requires enum-known-z returns returns-2)

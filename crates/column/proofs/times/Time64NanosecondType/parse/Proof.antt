@@ -7,8 +7,8 @@ use borrow.Author.Needs.{needs}
 use Rattle.column.proofs.times.Time64NanosecondType.parse.Statement.{statement}
 use Rattle.column.proofs.times.Time64NanosecondType.parse.Tie as tie
 
-found-requires : tie.Need-found-requires
-found-requires c κs = search needs
+found-i64-requires : tie.Need-found-i64-requires
+found-i64-requires c κs = search needs
 
 enum-known-nanos : tie.Need-enum-known-nanos
 enum-known-nanos c = search needs
@@ -19,12 +19,12 @@ enum-known-z c = search needs
 returns : tie.Need-returns
 returns c =
     let x = c .before in
-    sym (whole (outcome64 (x .nanos .given .0 .0))) ∙ sym (ap (foundIs 1) (x .nanos .given .1)) ∙ x .before .before .found .ensures 1
+    sym (whole (outcome64 (x .nanos .given .0 .0))) ∙ sym (ap (foundIs 1) (x .nanos .given .1)) ∙ x .before .before .found-i64 .ensures 1
 
 returns-2 : tie.Need-returns-2
 returns-2 c =
     let x = c .before in
-    back {z = x .z .given .0 .0} (record { sfits = c .known-told2 .given .0 .1 }) (sym (ap (foundIs 1) (x .z .given .1)) ∙ x .before .before .found .ensures 1)
+    back {z = x .z .given .0 .0} (record { sfits = c .known-told2 .given .0 .1 }) (sym (ap (foundIs 1) (x .z .given .1)) ∙ x .before .before .found-i64 .ensures 1)
 
 pub parse-spec : {M : Type 1} → statement M
-parse-spec = tie.close (tie.spec found-requires enum-known-nanos enum-known-z returns returns-2)
+parse-spec = tie.close (tie.spec found-i64-requires enum-known-nanos enum-known-z returns returns-2)

@@ -1,11 +1,10 @@
--- `column::times::found` meets its contract, by the laws of a time column. Assumes nothing.
+-- `column::times::found_i64` meets its contract, by the laws of a time column. Assumes nothing.
 use mathlib.Core.Path.{sym, ap, _∙_}
 use Rattle.refusal.specs.Outcome.{outcome64}
-use Rattle.column.specs.Found.{bitsOf}
 use Rattle.column.proofs.Outcomes.{a-time, no-time}
 use borrow.Author.Needs.{needs}
-use Rattle.column.proofs.times.found.Statement.{statement}
-use Rattle.column.proofs.times.found.Tie as tie
+use Rattle.column.proofs.times.found_i64.Statement.{statement}
+use Rattle.column.proofs.times.found_i64.Tie as tie
 
 string-to-time-nanoseconds-requires : tie.Need-string-to-time-nanoseconds-requires
 string-to-time-nanoseconds-requires c κs = search needs
@@ -24,17 +23,17 @@ returns c k =
     let x = c .before in
     let p = x .before .before in
     let a = p .before .before .args in
-    a-time k (bitsOf (a .wide)) (a .s .now) {z = x .n .given .0 .0} (record { sfits = c .known-told .given .0 .1 }) (sym (ap outcome64 (x .n .given .1)) ∙ p .string-to-time-nanoseconds .ensures)
+    a-time k 64 (a .s .now) {z = x .n .given .0 .0} (record { sfits = c .known-told .given .0 .1 }) (sym (ap outcome64 (x .n .given .1)) ∙ p .string-to-time-nanoseconds .ensures)
 
 returns-2 : tie.Need-returns-2
 returns-2 c k =
     let x = c .before in
     let p = x .before .before in
     let a = p .before .before .args in
-    no-time k (bitsOf (a .wide)) (a .s .now) (sym (ap outcome64 (x .enum-told .given .1)) ∙ p .string-to-time-nanoseconds .ensures) (c .integer-or-trimmed .ensures k)
+    no-time k 64 (a .s .now) (sym (ap outcome64 (x .enum-told .given .1)) ∙ p .string-to-time-nanoseconds .ensures) (c .integer-or-trimmed .ensures k)
 
-pub found-spec : {M : Type 1} → statement M
-found-spec =
+pub found-i64-spec : {M : Type 1} → statement M
+found-i64-spec =
     tie.close
     (tie.spec
     string-to-time-nanoseconds-requires
