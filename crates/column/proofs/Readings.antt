@@ -1,5 +1,5 @@
--- Readings of the definitions: document 01's of stamps, dates and times of day, each column at least once, and each refusal from 1 to 7.
--- Assumes nothing.
+-- Readings of the definitions: document 01's of stamps, dates and times of day that are not marked P, each column at least once, and each
+-- refusal from 1 to 7. Assumes nothing.
 use mathlib.Core.Path.{_≡_, refl}
 use mathlib.Core.List.{List, [], _∷_, map}
 use Prim.Native.Nat.{ℕ}
@@ -41,8 +41,6 @@ minus k = negℤ (pos k)
 abbrev rows : List Row
 rows =
     -- document 01, "Readings on either side"
-    row timeNanos (bytes "23:59:60") (accepted (pos 86_400_000_000_000)) ∷
-    reads Date32 "2020-1-1xy" (pos 18_262) ∷
     row timeNanos (bytes "0:00 AM") (refused 7) ∷
     refuses Time64Nanosecond " 1234" 7 ∷
     reads Time64Nanosecond "1234" (pos 1_234) ∷

@@ -27,6 +27,15 @@ pub none-more : (u : ℕ) (t : List ℕ) (n i : ℕ) → n ≤ i → led u (n - 
 unfolding nanosFrom
 none-more u t n i h = let z : n - i ≡ 0 = omega arith in rw z
 
+-- behind nine digits
+pub no-more-count : (n : ℕ) (t : List ℕ) → led 0 n t ≡ 0
+unfolding nanosFrom
+no-more-count n t = nothing (take n (take (run t) t))
+  where
+    nothing : (f : List ℕ) → nanosFrom 0 f ≡ 0
+    nothing [] = refl
+    nothing (b ∷ f) = omega (arith, nothing f)
+
 pub at-end : (u n : ℕ) (s : List ℕ) (i : ℕ) → length s ≤ i → led u n (drop i s) ≡ 0
 at-end u n s i h = none-left u n (drop i s) (run-end s i h)
 

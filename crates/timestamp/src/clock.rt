@@ -18,6 +18,10 @@ pub fn parse_nanos(digits: &[u8], n: usize) -> u32
     let mut unit: u32 = 100_000_000;
     let mut i = 0;
     while i < n {
+        // Behind nine digits.
+        if unit == 0 {
+            return nanos;
+        }
         if digits.len() <= i {
             return nanos;
         }

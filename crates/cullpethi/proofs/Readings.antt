@@ -1,0 +1,68 @@
+-- Document 01's P readings, over the definitions that the contracts cite: one table of readers, texts and answers, and one theorem over
+-- it. Assumes nothing.
+use mathlib.Core.Path.{_≡_, refl}
+use mathlib.Core.List.{List, [], _∷_, map}
+use Prim.Native.Nat.{ℕ}
+use Prim.Native.String.{String}
+use lib.IntN.{ℤ, pos, negℤ}
+use Rattle.text.specs.Digits.{digits, value, run}
+use Rattle.text.specs.Quoted.{bytes}
+use Rattle.text.specs.Trim.{blanks, trimStart, trimEnd}
+use Rattle.text.specs.Utf8.{wellFormed}
+use Rattle.text.specs.WhiteSpace.{white1, white2, white3, whiteOf}
+use Rattle.refusal.specs.Outcome.{Outcome, accepted, refused, andThen}
+use Rattle.calendar.specs.Calendar.{span, before as beforeMonth}
+use Rattle.timestamp.specs.Clock.{nanosFrom}
+use Rattle.time.specs.Answer.{timeOfDay, timeNanos}
+use Rattle.date.specs.Answer.{toHyphen, extendedYmd, shortDay, plainDay}
+use Rattle.date.specs.Grammar.{noDigits}
+use Rattle.column.specs.Columns.{Date32, column}
+use Rattle.interval.specs.Units.{rank, spellings, same, oneOf, find, low, kelvin, lower, unitOf, present, isUnit}
+use Rattle.interval.specs.Grammar.{precision, wholeFits}
+use Rattle.interval.specs.Division.{negative, signLen, pointLen, digitsLen, amountLen, wordLen, endStep, unitStep, restStep, amountStep, step, before, then, divideBy, divide}
+use Rattle.interval.specs.Contribution.{fracOf, unsignedOf, amountOf, times, wholeTimes, fracTimes, contribution}
+use Rattle.interval.specs.Answer.{orElse, spelled, unitFor, gives, fits, plus, totals, has, twice, onTotals, onDivision, monthDayNano, plainMonthDayNano}
+
+-- a reader, a text, and the answer: the counts in their order, or a refusal
+pub data Row : Type 0 where
+  row : (List ℕ → Outcome (List ℤ)) → String → Outcome (List ℤ) → Row
+
+abbrev computed : Row → Outcome (List ℤ)
+computed (row reader t r) = reader (bytes t)
+
+abbrev told : Row → Outcome (List ℤ)
+told (row reader t r) = r
+
+-- one count, and three
+abbrev one : Outcome ℤ → Outcome (List ℤ)
+one o = andThen o (λ z. accepted (z ∷ []))
+
+abbrev interval : List ℕ → Outcome (List ℤ)
+interval t = andThen (plainMonthDayNano precision t) (λ c. accepted (c .months ∷ c .days ∷ c .nanos ∷ []))
+
+-- months, days and nanoseconds
+abbrev reads : String → ℤ → ℤ → ℤ → Row
+reads t m d n = row interval t (accepted (m ∷ d ∷ n ∷ []))
+
+abbrev refuses : String → ℕ → Row
+refuses t n = row interval t (refused n)
+
+abbrev rows : List Row
+rows =
+    refuses "" 8 ∷
+    reads "1.5 months" (pos 1) (pos 15) (pos 0) ∷
+    reads "-.5 days" (pos 0) (pos 0) (negℤ (pos 43_200_000_000_000)) ∷
+    reads "0.5 weeks" (pos 0) (pos 0) (pos 302_400_000_000_000) ∷
+    reads "1 day 2" (pos 2) (pos 1) (pos 0) ∷
+    refuses "1  day" 8 ∷
+    refuses "+1 day" 8 ∷
+    refuses "1 day 1 d" 9 ∷
+    reads "306783378 weeks -2 days 0.1 months" (pos 0) (pos 2_147_483_647) (pos 0) ∷
+    refuses "306783378 weeks 0.1 months -2 days" 10 ∷
+    row (λ t. one (timeNanos t)) "23:59:60" (accepted (pos 86_400_000_000_000 ∷ [])) ∷
+    row (λ t. one (column Date32 t)) "2020-1-1xy" (accepted (pos 18_262 ∷ [])) ∷
+    []
+
+pub readings : map computed rows ≡ map told rows
+unfolding digits value run blanks trimStart trimEnd wellFormed white1 white2 white3 whiteOf span beforeMonth nanosFrom timeOfDay toHyphen extendedYmd shortDay plainDay noDigits rank spellings same oneOf find low kelvin lower unitOf present isUnit wholeFits negative signLen pointLen digitsLen amountLen wordLen endStep unitStep restStep amountStep step before then divideBy divide fracOf unsignedOf amountOf times wholeTimes fracTimes contribution orElse spelled unitFor gives fits plus totals has twice onTotals onDivision monthDayNano plainMonthDayNano
+readings = refl
