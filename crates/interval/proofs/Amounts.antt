@@ -77,10 +77,10 @@ unfoldable pub NoneUpTo : ℕ → ℕ → Type 0
 NoneUpTo p zero = Unit
 NoneUpTo p (suc n) = NoneUpTo p n × (p ≡ suc n → ⊥)
 
-pub none-up-to : (p n : ℕ) → NoneUpTo p n → p ≤ n → p ≡ 0
+pub past-all : (p n : ℕ) → NoneUpTo p n → 1 ≤ p → n < p
 unfolding NoneUpTo
-none-up-to p zero h l = omega arith
-none-up-to p (suc n) h l = none-up-to p n (h .0) (omega (arith, h .1))
+past-all p zero h l = omega arith
+past-all p (suc n) h l = omega (arith, past-all p n (h .0) l, h .1)
 
 -- ---- a whole part with its sign
 

@@ -42,7 +42,7 @@ pub fn number_at(text: &[u8], from: usize) -> Number
 
 // What a fraction's digits count: ten to the places that are left.
 pub fn scale(places: usize) -> u64
-    requires { ⌜ places ≤ precision ⌝ }
+    requires { ⌜ (1 ≤ places) × (places ≤ precision) ⌝ }
     ensures { λ r. ⌜ r ≡ 10 ^ (precision - places) ⌝ }
 {
     match places {
@@ -60,8 +60,7 @@ pub fn scale(places: usize) -> u64
         12 => 1_000,
         13 => 100,
         14 => 10,
-        15 => 1,
-        _ => 1_000_000_000_000_000,
+        _ => 1,
     }
 }
 

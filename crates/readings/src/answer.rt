@@ -21,7 +21,7 @@ fn ground(name: &[u8], text: &[u8]) {
         return;
     }
     if check::same(name, b"white") {
-        show::signed(small(text::white::white_at(text, 0)));
+        show::count(text::white::white_at(text, 0));
         return;
     }
     if check::same(name, b"trim") {
@@ -45,11 +45,6 @@ fn ground(name: &[u8], text: &[u8]) {
         return;
     }
     show::bytes(b"no such reader");
-}
-
-// A length that is shown.
-fn small(n: usize) -> i64 {
-    if n < 4096 { n as i64 } else { -1 }
 }
 
 // The day number of a year, a month and a day, parted by spaces.

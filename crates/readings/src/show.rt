@@ -3,6 +3,10 @@ pub fn bytes(s: &[u8]) {
     io::write_all(1, s);
 }
 
+pub fn count(n: usize) {
+    io::print_decimal(1, n as u64);
+}
+
 pub fn signed(z: i64) {
     if z < 0 {
         bytes(b"-");

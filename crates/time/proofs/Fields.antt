@@ -16,6 +16,7 @@ use Rattle.text.proofs.DigitLaws.{is-digit, no-digit, is-worth}
 use Rattle.text.proofs.TwoDigits.{sign, twoOr, two-test, two-is}
 use Rattle.timestamp.specs.Clock.{inRange}
 use Rattle.time.specs.declared.Half.{Half}
+use Rattle.time.specs.declared.Half.the-variants.{Neither}
 use Rattle.time.specs.Answer.{half, body, hourOf, inDay, fractionOf, withFraction, afterMinutes, afterHour, fromHour, timeOfDay}
 
 -- what the clock makes of fields is what the definition makes of them
@@ -95,3 +96,10 @@ module _ (s : List ℕ) (p : Half) {a b : ℕ} (fits : (i : ℕ) → getD s i 0 
 pub by-half : (t : List ℕ) {p : Half} → p ≡ half t → fromHour p (body p t) ≡ timeOfDay t
 unfolding timeOfDay
 by-half t e = ap (λ (p : Half). fromHour p (body p t)) e
+
+-- a text with AM or PM is longer than they are
+pub long-enough : (t : List ℕ) {p : Half} → p ≡ half t → (p ≡ Neither → _≡_ {A = ℕ} 0 1) → 3 ≤ length t
+long-enough t e n =
+    by-test (ltb (length t) 4)
+    (λ x. absurd (omega (arith, n (e ∙ rw x))))
+    (λ x. let h = ltb-false (length t) 4 x in omega arith)

@@ -104,11 +104,9 @@ fn half_of(space: u8, a: u8, m: u8) -> Half
 
 // A text without its last three bytes.
 fn without_ending(s: &[u8]) -> &[u8]
+    requires { ⌜ 3 ≤ length (now s) ⌝ }
     ensures { λ r. ⌜ now r ≡ take (length (now (s .entry)) - 3) (now (s .entry)) ⌝ }
 {
-    if s.len() < 3 {
-        return &s[..0];
-    }
     let end = s.len() - 3;
     &s[..end]
 }

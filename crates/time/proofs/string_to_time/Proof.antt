@@ -3,7 +3,7 @@ use mathlib.Core.Path.{sym, ap, _∙_}
 use borrow.Author.Needs.{needs}
 use Rattle.time.specs.declared.Half.the-variants.{Am, Pm}
 use Rattle.time.specs.Answer.{fromHour}
-use Rattle.time.proofs.Fields.{by-half}
+use Rattle.time.proofs.Fields.{by-half, long-enough}
 use Rattle.time.proofs.string_to_time.Statement.{statement}
 use Rattle.time.proofs.string_to_time.Tie as tie
 
@@ -14,7 +14,9 @@ enum-told : tie.Need-enum-told
 enum-told c = search needs
 
 without-ending-requires : tie.Need-without-ending-requires
-without-ending-requires c κs = search needs
+without-ending-requires c κs =
+    let e = c .before .before in
+    long-enough (e .before .before .args .s .now) (sym (c .enum-told .given .1) ∙ e .ending .ensures) (λ q. cc)
 
 from-hour-requires : tie.Need-from-hour-requires
 from-hour-requires c κs = search needs
@@ -23,7 +25,9 @@ enum-told-2 : tie.Need-enum-told-2
 enum-told-2 c = search needs
 
 without-ending-requires-2 : tie.Need-without-ending-requires-2
-without-ending-requires-2 c κs = search needs
+without-ending-requires-2 c κs =
+    let e = c .before .before in
+    long-enough (e .before .before .args .s .now) (sym (c .enum-told2 .given .1) ∙ e .ending .ensures) (λ q. cc)
 
 from-hour-requires-2 : tie.Need-from-hour-requires-2
 from-hour-requires-2 c κs = search needs

@@ -1,5 +1,7 @@
 -- `interval::amount::scale` meets its contract, place by place. Assumes nothing.
-use Rattle.interval.proofs.Amounts.{NoneUpTo, none-up-to}
+use mathlib.Core.Path.{_≡_}
+use native.Mathlib.Omega.{arith}
+use Rattle.interval.proofs.Amounts.{NoneUpTo, past-all}
 use Rattle.interval.proofs.amount.scale.Statement.{statement}
 use Rattle.interval.proofs.amount.scale.Tie as tie
 
@@ -46,11 +48,11 @@ returns-14 : tie.Need-returns-14
 returns-14 c = rw (c .match .keys14)
 
 returns-15 : tie.Need-returns-15
-returns-15 c = rw (c .match .keys15)
-
-returns-16 : tie.Need-returns-16
 unfolding NoneUpTo
-returns-16 c = rw (none-up-to (c .before .args .places) 15 (c .match .rest) (c .before .pre))
+returns-15 c =
+    let p = c .before .args .places in
+    let q : p ≡ 15 = omega (arith, past-all p 14 (c .match .rest) (c .before .pre .0), c .before .pre .1) in
+    rw q
 
 pub scale-spec : {M : Type 1} → statement M
 scale-spec =
@@ -70,5 +72,4 @@ scale-spec =
     returns-12
     returns-13
     returns-14
-    returns-15
-    returns-16)
+    returns-15)
