@@ -1,6 +1,6 @@
 -- Milliseconds of a day, and of a day and a time of it, rounded down. Assumes nothing.
 use mathlib.Core.Path.{_≡_, ap}
-use Prim.Native.Nat.{ℕ, _+_, _*_, _/_, _≤_, _<_}
+use Prim.Native.Nat.{ℕ, _+_, _*_, _/_, _^_, _≤_, _<_}
 use native.Mathlib.Omega.{arith}
 use lib.IntN.{ℤ, pos, negsuc, _+ℤ_, _*ℤ_}
 use lib.Signed.{mag}
@@ -10,7 +10,7 @@ use mir.Facts.{toZ-ofZ, toZ-pos}
 use Rattle.number.specs.Widths.{floor}
 use Rattle.number.proofs.Zed.{P, N, mul-P, mul-N, mag-of, of-mag, fits-of}
 use Rattle.number.proofs.Ranges.{rd}
-use Rattle.timestamp.proofs.Instants.{sum-of}
+use Rattle.timestamp.proofs.Instants.{sum-of, seconds, seconds-fit, more-seconds, more-fit}
 
 -- a number within b of zero, as `mag` has it
 pub near : (z : ℤ) (b : ℕ) → (P z ≤ N z + b) × (N z ≤ P z + b) → mag z ≤ b
@@ -41,17 +41,22 @@ floor-is (negsuc a) (negsuc b) l h = ap negsuc (omega arith)
 -- ---- a day z and a time of it, of x seconds and p nanoseconds
 
 module _ (z : ℤ) (x p : ℕ) (l : mag z ≤ 4400000) (h : x * 1000000000 + p ≤ 86401000000000) where
-  far : (P z < N z + 4400001) × (N z ≤ P z + 4400001)
-  far = mag-of z (omega arith)
+  far : (P z ≤ N z + 4400001) × (N z ≤ P z + 4400001)
+  far =
+      let m : (P z < N z + 4400001) × (N z ≤ P z + 4400001) = mag-of z (omega arith) in
+      (omega (arith, m .0), m .1)
+
+  short : x < 2 ^ 32
+  short = omega arith
 
   fits : SFits w64 z
   fits = fits-of w64 z (omega (arith, far .0, far .1))
 
   of-day : SFits w64 (z *ℤ pos 86400)
-  of-day = fits-of w64 (z *ℤ pos 86400) (omega (arith, mul-P z 86400, mul-N z 86400, far .0, far .1))
+  of-day = seconds fits x short far
 
   in-seconds : SFits w64 (z *ℤ pos 86400 +ℤ pos x)
-  in-seconds = fits-of w64 (z *ℤ pos 86400 +ℤ pos x) (omega (arith, sum-of z 86400 x, far .0, far .1))
+  in-seconds = more-seconds fits x short far
 
   by-thousand : SFits w64 ((z *ℤ pos 86400 +ℤ pos x) *ℤ pos 1000)
   by-thousand =
@@ -74,10 +79,10 @@ module _ (z : ℤ) (x p : ℕ) (l : mag z ≤ 4400000) (h : x * 1000000000 + p �
   -- as the machine has it: each local is read back from its bits
 
   pub seconds-of-day : SFits w64 (rd w64 z *ℤ pos 86400)
-  seconds-of-day = rw (toZ-ofZ fits) of-day
+  seconds-of-day = seconds-fit fits x short far
 
   pub all-seconds : SFits w64 (rd w64 (rd w64 z *ℤ pos 86400) +ℤ toZ w64 x)
-  all-seconds = rw (toZ-ofZ fits, toZ-ofZ of-day, toZ-pos w64 {n = x} (omega arith)) in-seconds
+  all-seconds = more-fit fits x short far
 
   pub thousandfold : SFits w64 (rd w64 (rd w64 (rd w64 z *ℤ pos 86400) +ℤ toZ w64 x) *ℤ pos 1000)
   thousandfold = rw (toZ-ofZ fits, toZ-ofZ of-day, toZ-pos w64 {n = x} (omega arith), toZ-ofZ in-seconds) by-thousand

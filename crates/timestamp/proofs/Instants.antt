@@ -52,6 +52,21 @@ module _ {z : ℤ} (f : SFits w64 z) (p : ℕ) {m : ℕ} (e : m ≡ natAbs (rd w
       (λ h g. let l = le-no (pos 0) z h in
       eq-of (pos (p - m * 1000000000)) (inAll z p) (omega (arith, size, sum-of z 1000000000 p, abs-down z (omega arith))))
 
+-- ---- the seconds of day z, which lies no further off than any year of four digits, and x more: as they are, and as the machine has them
+
+module _ {z : ℤ} (f : SFits w64 z) (x : ℕ) (fx : x < 2 ^ 32) (near : (P z ≤ N z + 4400001) × (N z ≤ P z + 4400001)) where
+  pub seconds : SFits w64 (z *ℤ pos 86400)
+  seconds = fits-of w64 (z *ℤ pos 86400) (omega (arith, mul-P z 86400, mul-N z 86400, near))
+
+  pub seconds-fit : SFits w64 (rd w64 z *ℤ pos 86400)
+  seconds-fit = rw (toZ-ofZ f) seconds
+
+  pub more-seconds : SFits w64 (z *ℤ pos 86400 +ℤ pos x)
+  more-seconds = fits-of w64 (z *ℤ pos 86400 +ℤ pos x) (omega (arith, sum-of z 86400 x, near))
+
+  pub more-fit : SFits w64 (rd w64 (rd w64 z *ℤ pos 86400) +ℤ toZ w64 x)
+  more-fit = rw (toZ-ofZ f, toZ-ofZ seconds, toZ-pos w64 {n = x} (omega arith)) more-seconds
+
 -- ---- day z, and a time of it, of x seconds and p nanoseconds
 
 abbrev pub onDay : ℤ → ℕ → ℕ → ℤ
@@ -71,27 +86,21 @@ module _ {z : ℤ} (f : SFits w64 z) (x p : ℕ) (fx : x < 2 ^ 32) where
       (omega (arith, sum-of z 86400000000000 (x * 1000000000 + p), lt-yes (pos 200000) z h)))
 
   module _ (low : ltZ (rd w64 z) (negsuc 199999) ≡ false) (high : ltZ (pos 200000) (rd w64 z) ≡ false) where
-    near : (P z ≤ N z + 200000) × (N z ≤ P z + 200000)
+    near : (P z ≤ N z + 4400001) × (N z ≤ P z + 4400001)
     near =
         let l = lt-no z (negsuc 199999) (rw (toZ-ofZ f) at low) in
         let h = lt-no (pos 200000) z (rw (toZ-ofZ f) at high) in
         omega arith
 
-    seconds : SFits w64 (z *ℤ pos 86400)
-    seconds = fits-of w64 (z *ℤ pos 86400) (omega (arith, mul-P z 86400, mul-N z 86400, near))
-
     pub day-fits : SFits w64 (rd w64 z *ℤ pos 86400)
-    day-fits = rw (toZ-ofZ f) seconds
-
-    sum-fits : SFits w64 (z *ℤ pos 86400 +ℤ pos x)
-    sum-fits = fits-of w64 (z *ℤ pos 86400 +ℤ pos x) (omega (arith, sum-of z 86400 x, near))
+    day-fits = seconds-fit f x fx near
 
     pub time-fits : SFits w64 (rd w64 (rd w64 z *ℤ pos 86400) +ℤ toZ w64 x)
-    time-fits = rw (toZ-ofZ f, toZ-ofZ seconds, toZ-pos w64 {n = x} (omega arith)) sum-fits
+    time-fits = more-fit f x fx near
 
     pub joined : inAll (rd w64 (rd w64 (rd w64 z *ℤ pos 86400) +ℤ toZ w64 x)) p ≡ onDay z x p
     joined =
-        rw (toZ-ofZ f, toZ-ofZ seconds, toZ-pos w64 {n = x} (omega arith), toZ-ofZ sum-fits)
+        rw (toZ-ofZ f, toZ-ofZ (seconds f x fx near), toZ-pos w64 {n = x} (omega arith), toZ-ofZ (more-seconds f x fx near))
         (eq-of (inAll (z *ℤ pos 86400 +ℤ pos x) p) (onDay z x p) (omega (
           arith,
           sum-of (z *ℤ pos 86400 +ℤ pos x) 1000000000 p,
