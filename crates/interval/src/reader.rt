@@ -13,6 +13,7 @@ pub struct Reader<'a> {
 }
 
 impl<'a> Reader<'a> {
+    // At a place of a text.
     pub fn new(text: &'a [u8], at: usize) -> Reader<'a>
         ensures { λ r. ⌜ (r .text ≡ text .entry) × (r .at ≡ at) ⌝ }
     {
@@ -35,7 +36,7 @@ impl<'a> Reader<'a> {
     }
 }
 
-// The component at a place of a text, by a reader that is made there: whoever calls it holds no reader.
+// The component at a place of a text, by a reader that is made here: a caller holds none, so its own proof is no walk of MIR.
 pub fn component_at(text: &[u8], at: usize) -> Piece
     requires { ⌜ at ≤ length (now text) ⌝ }
     ensures { λ r. ⌜ pieceIs (now (text .entry)) at r ⌝ }

@@ -1,7 +1,7 @@
 -- `interval::reader::component_at` meets its contract: a walk of its MIR, by hand. A reader that `new` makes is held in a local and passed to
 -- `next`. All that the proof knows of the two is that each meets its contract. In a local of a body MIR erases the lifetime of the struct's
 -- type, so the value is shown to have the type at `erased`. Assumes nothing.
-use mathlib.Core.Path.{_≡_, refl, sym, subst}
+use mathlib.Core.Path.{_≡_, refl}
 use Prim.Native.Nat.{ℕ, _≤_, _<_, _^_}
 use mathlib.Core.List.{List, [], _∷_}
 use lib.ListN.{length}
@@ -14,18 +14,17 @@ use prog.Memory.{Memory}
 use prog.Routine.{Routine}
 use prog.Wp.{Heap, Calls, Loops, WpFn, Tables}
 use ghost.Atoms.{Atoms, sem}
-use contract.Lifetimes.{Lfts}
 use contract.Monad.{Fun, fact}
 use contract.Running.{givenOf, tables, tablesOf}
 use types.Kit.{Given, ‵, raw, _⊛_, ⋆, some, later, _$_, _∵_, !, qed, by, move, use1, use2, split, join, pick, fsplit, fjoin, suffices, frame, await, done}
 use types.Run.{look, init, forget, stop, from, load, and-then, no-more, land, returns, enter, alloc1, alloc0, params1, pass1, pass0, free1, free0}
 use sound.WpLaws.{FmC, fmOf, WpFn-mono}
-use denote.RattleType.{RattleType, owns}
+use denote.RattleType.{owns}
 use denote.Laws.{Is, shows}
 use denote.Plain.{uint-vals, uint-tells, uint-makes}
 use denote.Builtin.{u8, usize}
 use denote.Ref.{RefT, NamedLft, now}
-use denote.Signature.{plain, namedLft}
+use denote.Signature.{plain}
 use denote.Slice.{sliceVal, ShrSlice, slice-vals, shr-slice-tells, shr-slice-lawful, shr-slice-copy}
 use denote.Steps.{owned, peeks, heard, nothing}
 use denote.Enum.Laws as EL
@@ -41,6 +40,7 @@ use denote.Triple.Clauses.{ensured, lasts}
 use Rattle.interval.specs.Read.{pieceIs}
 use Rattle.interval.specs.declared.Piece.{Piece}
 use Rattle.interval.specs.declared.reader.Reader.{Reader}
+use Rattle.interval.proofs.Held.{Held}
 use Rattle.interval.proofs.Piece as S
 use Rattle.interval.proofs.Piece.Laws as S′
 use Rattle.interval.proofs.reader.Reader as T
@@ -57,10 +57,6 @@ use Rattle.interval.proofs.reader.component_at.Key.{name as #component-
 use Rattle.interval.proofs.reader.component_at as component-at
 use Rattle.interval.proofs.reader.component_at.Statement as stated
 use Rattle.interval.proofs.reader.component_at.Code as code
-
--- the struct's type, over the signature's lifetimes
-abbrev B : Lfts 1 → RattleType
-B κs = T.the-row (namedLft 1 0 tt κs)
 
 abbrev stayed : Stays (component-at.ended .signature .params) (component-at.ended .kept)
 stayed = (stay-none-slice (0 ∷ []) tt (plain (λ _. u8)) yes, (stay-none (λ _. usize) yes, tt))
@@ -121,8 +117,8 @@ module _ {M : Type 1} (𝓤 : URA M) (H : Heap 𝓤) (A : Atoms 𝓤) (W : Given
   abbrev to-next : Reader → Val → Next 𝓤 H A mem run .Ghost
   to-next r u = (((κ, tt), (q, tt), tt, (r, tt), (u ∷ [], tt)), tt)
 
-  goes-next : (r : Reader) (u : Val) → Made r → ent 𝓤 (⋆ 𝓤 H A (‵ (B (κ, tt) .own r (u ∷ [])) ∷ (‵ (flft κ q) ⊛ ‵ ftrue) ∷ [])) (Next 𝓤 H A mem run .pre (to-next r u))
-  goes-next r u e = qed W (‵ (B (κ, tt) .own r (u ∷ [])) ∷ (‵ (flft κ q) ⊛ ‵ ftrue) ∷ []) ∵ says ! (made-inside r e) $ nothing ! $ move ! (1 ∷ 0 ∷ []) $ fjoin ! $ move ! (1 ∷ []) $ frame ! $ done !
+  goes-next : (r : Reader) (u : Val) → Made r → ent 𝓤 (⋆ 𝓤 H A (‵ (Held (κ, tt) .own r (u ∷ [])) ∷ (‵ (flft κ q) ⊛ ‵ ftrue) ∷ [])) (Next 𝓤 H A mem run .pre (to-next r u))
+  goes-next r u e = qed W (‵ (Held (κ, tt) .own r (u ∷ [])) ∷ (‵ (flft κ q) ⊛ ‵ ftrue) ∷ []) ∵ says ! (made-inside r e) $ nothing ! $ move ! (1 ∷ 0 ∷ []) $ fjoin ! $ move ! (1 ∷ []) $ frame ! $ done !
 
   next-said : (r : Reader) (p : Piece) → ent 𝓤 (ensured 𝓤 H A next.ended (next.clauses 𝓤 H A mem run) (κ, tt) (r, tt) tt p) (fact 𝓤 (Found r p))
   next-said r p = exE 𝓤 _ (λ ws. snd∗ 𝓤 (sem 𝓤 H A (lasts next.ended (κ, tt) (r, tt) ws)) (fact 𝓤 (Found r p)))
@@ -140,10 +136,10 @@ module _ {M : Type 1} (𝓤 : URA M) (H : Heap 𝓤) (A : Atoms 𝓤) (W : Given
         alloc1 ! (λ l₀. alloc1 ! (λ l₁. alloc1 ! (λ l₂. alloc1 ! (λ l₃. alloc0 ! $ params1 ! $ pass1 ! (init ! 4 refl (shr-slice-lawful 𝓤 H A W (named 0) κ u8 .typed s (v ∷ []) p .0)) $ pass1 ! (init ! 2 refl (tt, record { fits = fits })) $ pass0 ! $
         move ! (8 ∷ []) $ use1 W (raw (New 𝓤 H A mem run .pre to-new) ⊛ ‵ Own) goes-new $ split ! $
         calls-at ! fm (New 𝓤 H A mem run) known-new to-new (and-then ! (load ! (from ! (stop !)) (look ! 6 refl)) (and-then ! (load ! (from ! (stop !)) (look ! 4 refl)) (no-more !))) (λ u.
-        use1 W (later (some (λ (r : Reader). ((‵ (flft κ q) ⊛ ‵ ftrue) ⊛ ‵ (B (κ, tt) .own r (u ∷ []))) ⊛ raw (ensured 𝓤 H A new.ended (new.clauses 𝓤 H A mem run) (κ, tt) (s, (n, tt)) tt r)))) (id⊢ 𝓤 _) $ await ! tt $ pick ! (λ r.
+        use1 W (later (some (λ (r : Reader). ((‵ (flft κ q) ⊛ ‵ ftrue) ⊛ ‵ (Held (κ, tt) .own r (u ∷ []))) ⊛ raw (ensured 𝓤 H A new.ended (new.clauses 𝓤 H A mem run) (κ, tt) (s, (n, tt)) tt r)))) (id⊢ 𝓤 _) $ await ! tt $ pick ! (λ r.
         split ! $ move ! (1 ∷ []) $ use1 W (raw (fact 𝓤 (Made r))) (new-said r) $ heard ! (Made r) (λ e. split ! $ move ! (1 ∷ []) $
         -- [what the struct owns; the token; what the text owns; room for _3; …; _2; …; _1; …; room for _0; …]
-        peeks ! (B (κ, tt)) (Is (B (κ, tt))) (shows 𝓤 H A (B (κ, tt))) r (u ∷ []) (λ is.
+        peeks ! (Held (κ, tt)) (Is (Held (κ, tt))) (shows 𝓤 H A (Held (κ, tt))) r (u ∷ []) (λ is.
         land ! (from ! (stop !)) (init ! 3 refl (LL.lawful (T.the-type αᵉ) (T′.the-laws αᵉ) 𝓤 H A W .typed r _ is .0)) $
         use2 W (raw (Next 𝓤 H A mem run .pre (to-next r u))) (goes-next r u e) $
         calls-at ! fm (Next 𝓤 H A mem run) known-next (to-next r u) (and-then ! (load ! (from ! (stop !)) (look ! 2 refl)) (no-more !)) (λ u′.

@@ -15,14 +15,13 @@ use prog.Memory.{Memory}
 use prog.Routine.{Routine}
 use prog.Wp.{Heap, Calls, Loops, WpFn, Tables}
 use ghost.Atoms.{Atoms, sem}
-use contract.Lifetimes.{Lfts}
 use contract.Monad.{Fun, fact}
 use contract.Running.{givenOf, tables, tablesOf}
 use types.Kit.{Given, ‵, raw, _⊛_, given, ⋆, some, later, _$_, _∵_, !, qed, by, move, drop, use1, use2, split, learn, pick, fsplit, fjoin, suffices, frame, await, done}
 use types.Part.{whole, sub, look-in}
 use types.Run.{look, init, forget, stop, fld, from, load, of-opd, and-then, no-more, assigns, land, returns, enter, alloc1, alloc0, params1, pass1, pass0, free1, free0}
 use sound.WpLaws.{FmC, fmOf, WpFn-mono}
-use denote.RattleType.{RattleType, owns}
+use denote.RattleType.{owns}
 use denote.Laws.{Is, shows}
 use denote.Plain.{uint-makes}
 use denote.Builtin.{u8, usize}
@@ -46,9 +45,9 @@ use denote.Triple.Clauses.{ensured, lasts}
 use Rattle.interval.specs.Read.{pieceIs}
 use Rattle.interval.specs.declared.Piece.{Piece}
 use Rattle.interval.specs.declared.reader.Reader.{Reader}
+use Rattle.interval.proofs.Held.{Held, declared, laws}
 use Rattle.interval.proofs.Piece as S
 use Rattle.interval.proofs.Piece.Laws as S′
-use Rattle.interval.proofs.reader.Reader as T
 use Rattle.interval.proofs.reader.Reader.Laws as T′
 use Rattle.interval.proofs.split.split_interval_component as component
 use Rattle.interval.proofs.split.split_interval_component.Symbol as component-def
@@ -59,12 +58,8 @@ use Rattle.interval.proofs.reader.Reader.next as next
 use Rattle.interval.proofs.reader.Reader.next.Statement as stated
 use Rattle.interval.proofs.reader.Reader.next.Code as code
 
--- the struct's type, over the signature's lifetimes
-abbrev B : Lfts 1 → RattleType
-B κs = T.the-row (namedLft 1 0 tt κs)
-
 abbrev stayed : Stays (next.ended .signature .params) (next.ended .kept)
-stayed = (stay-none B yes, tt)
+stayed = (stay-none Held yes, tt)
 
 module _ {M : Type 1} (𝓤 : URA M) (H : Heap 𝓤) (A : Atoms 𝓤) (mem : Memory → SProp 𝓤) (run : Routine → Fun 𝓤) where
   -- the contract that the proof cites
@@ -86,14 +81,14 @@ module _ {M : Type 1} (𝓤 : URA M) (H : Heap 𝓤) (A : Atoms 𝓤) (W : Given
   Post = walkOf 𝓤 H A next.ended stayed (next.clauses 𝓤 H A mem run) .post (((κ, tt), (q, tt), tt, (d, tt), (mach ∷ [], tt)), tt)
 
   abbrev Own : Fml
-  Own = B (κ, tt) .own d (mach ∷ [])
+  Own = Held (κ, tt) .own d (mach ∷ [])
 
   -- the struct's type and laws, and its fields' values
   abbrev D : Declared
-  D = T.the-type (namedLft 1 0 tt (κ, tt))
+  D = declared (κ, tt)
 
   abbrev L : LL.Laws D
-  L = T′.the-laws (namedLft 1 0 tt (κ, tt))
+  L = laws (κ, tt)
 
   abbrev vd : Values (D .parts)
   vd = (d .text, (d .at, tt))
@@ -111,7 +106,7 @@ module _ {M : Type 1} (𝓤 : URA M) (H : Heap 𝓤) (A : Atoms 𝓤) (W : Given
   -- what the struct owns gives what the callee asks, and is kept
   apart : d .at < 2 ^ 64 → ent 𝓤 (onEntry 𝓤 H A next.signature (κ, tt) (q, tt) (d, tt) (mach ∷ [], tt)) (sep 𝓤 (Component 𝓤 H A mem run .pre to) (sem 𝓤 H A Own))
   apart fits =
-      qed W ((‵ (flft κ q) ⊛ ‵ ftrue) ∷ ‵ (owns (B (κ, tt) ∷ []) (d, tt) (mach ∷ [], tt)) ∷ []) ∵
+      qed W ((‵ (flft κ q) ⊛ ‵ ftrue) ∷ ‵ (owns (Held (κ, tt) ∷ []) (d, tt) (mach ∷ [], tt)) ∷ []) ∵
       move ! (1 ∷ []) $ fsplit ! $ move ! (1 ∷ []) $ drop ! $ use1 W (‵ Own ⊛ ‵ Own) (LL.copy D (T′.the-copy (namedLft 1 0 tt (κ, tt))) 𝓤 H A W .twice d (mach ∷ [])) $ split ! $
       use1 W (given (mach ∷ [] ≡ mach ∷ []) (‵ (all-own (D .parts) L vd))) (own-open 𝓤 H A W D L vd mach) $ learn ! (λ _. use1 W (‵ (ownAt (D .parts) L 0 (d .text)) ⊛ ‵ (rest (D .parts) L 0 vd)) (own-out 𝓤 H A W (D .parts) L 0 vd) $ split ! $
       -- [what the text owns; what the place owns; what the struct owns; the token]
@@ -148,14 +143,14 @@ module _ {M : Type 1} (𝓤 : URA M) (H : Heap 𝓤) (A : Atoms 𝓤) (W : Given
 module _ {M : Type 1} (𝓤 : URA M) (H : Heap 𝓤) (A : Atoms 𝓤) (W : Given 𝓤 H A) (mem : Memory → SProp 𝓤) (run : Routine → Fun 𝓤) where
   next-walks : (C : Calls 𝓤 H) (Λ : Loops 𝓤 H) → FmC 𝓤 H (W .laws) C → Triple 𝓤 (C #component) (Component 𝓤 H A mem run)
       → Walks 𝓤 H A next.ended stayed (WpFn 𝓤 H C Λ code.function) (next.clauses 𝓤 H A mem run)
-  next-walks C Λ fm known = walked 𝓤 H A next.ended stayed (next.clauses 𝓤 H A mem run) (WpFn 𝓤 H C Λ code.function) (λ κs. (LL.vals (T.the-type (namedLft 1 0 tt κs)) (T′.the-laws (namedLft 1 0 tt κs)), tt)) (λ κs. (LL.tells (T.the-type (namedLft 1 0 tt κs)) (T′.the-laws (namedLft 1 0 tt κs)), tt))
+  next-walks C Λ fm known = walked 𝓤 H A next.ended stayed (next.clauses 𝓤 H A mem run) (WpFn 𝓤 H C Λ code.function) (λ κs. (LL.vals (declared κs) (laws κs), tt)) (λ κs. (LL.tells (declared κs) (laws κs), tt))
       (λ κs qs bounds a g are. needs 𝓤 (a .0 .at ≤ length (now (a .0 .text))) _
-      (λ inside. walk 𝓤 H A W mem run (κs .0) (qs .0) (a .0) inside C Λ fm known (LL.lawful (T.the-type (namedLft 1 0 tt κs)) (T′.the-laws (namedLft 1 0 tt κs)) 𝓤 H A W .typed (a .0) _ (are .0) .0)))
+      (λ inside. walk 𝓤 H A W mem run (κs .0) (qs .0) (a .0) inside C Λ fm known (LL.lawful (declared κs) (laws κs) 𝓤 H A W .typed (a .0) _ (are .0) .0)))
 
 next-meets : {M : Type 1} (𝓤 : URA M) (H : Heap 𝓤) (A : Atoms 𝓤) (W : Given 𝓤 H A) (mem : Memory → SProp 𝓤) (run : Routine → Fun 𝓤) (𝓣 : Tables 𝓤 H)
     → Triple 𝓤 (𝓣 .C #component) (Component 𝓤 H A mem run)
     → Meets 𝓤 H A next.signature (WpFn 𝓤 H (𝓣 .C) (𝓣 .Λ) code.function) (next.spec 𝓤 H A mem run)
-next-meets 𝓤 H A W mem run 𝓣 known = walk-meets 𝓤 H A next.ended stayed W (goes-none 𝓤 H A W 1 B yes (λ κs x f. refl), tt) (next.clauses 𝓤 H A mem run) (WpFn 𝓤 H (𝓣 .C) (𝓣 .Λ) code.function) (WpFn-mono 𝓤 H (W .laws) 𝓣 code.function)
+next-meets 𝓤 H A W mem run 𝓣 known = walk-meets 𝓤 H A next.ended stayed W (goes-none 𝓤 H A W 1 Held yes (λ κs x f. refl), tt) (next.clauses 𝓤 H A mem run) (WpFn 𝓤 H (𝓣 .C) (𝓣 .Λ) code.function) (WpFn-mono 𝓤 H (W .laws) 𝓣 code.function)
     (next-walks 𝓤 H A W mem run (𝓣 .C) (𝓣 .Λ) (fmOf 𝓤 H (W .laws) 𝓣) known)
 
 pub next-spec : {M : Type 1} → stated.statement M
