@@ -14,3 +14,4 @@ pub mod Pieces
 pub mod Adding
 pub mod Folding
 pub mod Narrower
+pub mod Held

@@ -9,7 +9,7 @@ use crate::Nanos;
 use crate::Piece;
 use crate::Sum;
 use crate::UnitRead;
-use crate::split;
+use crate::reader;
 use refusal::Refusal;
 ghost use mathlib.Core.Path.{_≡_};
 ghost use mathlib.Core.Bool.{cond};
@@ -65,7 +65,7 @@ pub fn parse_interval_components(value: &[u8], default_unit: IntervalUnit) -> In
         nanos: Nanos(0),
     });
     loop {
-        match split::split_interval_component(value, at) {
+        match reader::component_at(value, at) {
             Piece::Bad => {
                 return IntervalRead::Refused(Refusal::Interval.of(value));
             }

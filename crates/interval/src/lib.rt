@@ -12,6 +12,7 @@ mod amount;
 mod components;
 mod contributions;
 mod narrow;
+mod reader;
 mod split;
 mod unit;
 
