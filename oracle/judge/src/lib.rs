@@ -14,6 +14,7 @@ pub enum Answer {
 
 pub mod generate;
 pub mod library;
+pub mod lines;
 
 pub use Answer::*;
 
@@ -169,6 +170,27 @@ pub fn rust(reader: Reader, s: &str) -> Answer {
             triple(parse_interval_month_day_nano_config(s, IntervalParseConfig::new(UNITS[u as usize])), s)
         }
     }
+}
+
+/// The same of any bytes: the Rust has `&str`, and 1 is added.
+pub fn rust_bytes(reader: Reader, text: &[u8]) -> Answer {
+    std::str::from_utf8(text).map_or(Refused(Some(1)), |s| rust(reader, s))
+}
+
+/// Whether a stamp's tail is one that the Rust could read as an offset or a zone name, which the shim's `Tz` cannot tell.
+pub fn beyond_the_claim(reader: Reader, text: &[u8]) -> bool {
+    let Ok(s) = std::str::from_utf8(text) else { return false };
+    if rust(reader, s) != Refused(Some(5)) {
+        return false;
+    }
+    let trims = !matches!(reader, Reader::StringToTimestampNanos | Reader::Date64);
+    let clock = &(if trims { trimmed(s) } else { s })[11..];
+    let tail = match clock.as_bytes()[2] {
+        b':' if clock[8..].starts_with('.') => clock[9..].trim_start_matches(|c: char| c.is_ascii_digit()),
+        b':' => &clock[8..],
+        _ => &clock[6..],
+    };
+    tail.trim_start().starts_with(|c: char| c == '+' || c == '-' || c.is_ascii_alphabetic())
 }
 
 /// The Rust's value alone, as a caller has it; refusals are not told apart.
