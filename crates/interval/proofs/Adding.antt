@@ -3,7 +3,7 @@
 use mathlib.Core.Path.{_≡_, refl, sym, ap, _∙_}
 use mathlib.Core.Bool.{Bool, true, false}
 use mathlib.Core.Option.{Option, none, some, Option·none-ne-some}
-use Prim.Native.Nat.{ℕ, zero, suc, _+_, _-_, _*_, _/_, _^_, _≤_, _<_}
+use Prim.Native.Nat.{ℕ, zero, suc, _+_, _*_, _/_, _^_, _≤_, _<_}
 use native.Mathlib.Nat.{mul-le-mul, mul-le-mul-left, mul-le-mul-right, div-lt-iff-lt-mul, div-le-self, zero-div}
 use native.Mathlib.Omega.{arith}
 use lib.IntN.{ℤ, pos, negsuc, negℤ, natAbs, _+ℤ_, _-ℤ_, _*ℤ_}
@@ -16,13 +16,15 @@ use Rattle.number.specs.Widths.{inSigned, signed, fit}
 use Rattle.number.proofs.Zed.{abs-neg, P, N, P-neg, N-neg, add-pn, mul-P, mul-N, lt-yes, lt-no, eq-of, fits-of}
 use Rattle.number.proofs.Ranges.{rd, fit-yes, fit-above, fit-below}
 use Rattle.number.proofs.Sizes.{too-large}
-use Rattle.interval.specs.Grammar.{precision}
-use Rattle.interval.specs.Contribution.{Value, Counts, counts, times, wholeTimes, fracTimes}
+use Rattle.component.specs.Grammar.{precision}
+use Rattle.component.specs.Amount.{Value}
+use Rattle.component.specs.Read.{amountFrom}
+use Rattle.component.specs.declared.IntervalAmount.{IntervalAmount}
+use Rattle.component.proofs.Amounts.{ten-pos, abs-signed, size-flips, size-minus}
+use Rattle.interval.specs.Contribution.{Counts, counts, times, wholeTimes, fracTimes}
 use Rattle.interval.specs.Answer.{fits, plus}
-use Rattle.interval.specs.Read.{amountFrom, Most, together, fitting, added}
-use Rattle.interval.specs.declared.IntervalAmount.{IntervalAmount}
-use Rattle.interval.proofs.Cuts.{ten-pos, times-cut, cut-ratio}
-use Rattle.interval.proofs.Amounts.{abs-signed, size-flips, size-minus}
+use Rattle.interval.specs.Read.{Most, together, fitting, added}
+use Rattle.interval.proofs.Cuts.{times-cut, cut-ratio}
 
 -- ---- a sign goes through products, quotients and sums
 

@@ -1,13 +1,12 @@
 -- Cutting toward zero, as a whole part and a fraction: what an amount times a unit comes to. Assumes nothing.
 use mathlib.Core.Path.{_≡_, sym, _∙_}
 use Prim.Native.Nat.{ℕ, _+_, _*_, _/_, _^_, _<_}
-use native.Mathlib.Nat.{mul-add-div-right, mul-div-mul-right, mul-assoc, mul-comm, one-le-pow}
+use native.Mathlib.Nat.{mul-add-div-right, mul-div-mul-right, mul-assoc, mul-comm}
 use native.Mathlib.Omega.{arith}
 use Rattle.number.specs.Widths.{signed}
-use Rattle.interval.specs.Contribution.{Value, times}
-
-pub ten-pos : (n : ℕ) → 0 < 10 ^ n
-ten-pos n = one-le-pow n 10 (omega arith)
+use Rattle.component.specs.Amount.{Value}
+use Rattle.component.proofs.Amounts.{ten-pos}
+use Rattle.interval.specs.Contribution.{times}
 
 -- the whole amount times k, cut, is the whole part times k and the fraction times k, cut
 pub cut : (w f k s : ℕ) → 0 < s → (w * s + f) * k / s ≡ w * k + f * k / s

@@ -10,7 +10,6 @@ use native.Mathlib.Nat.{zero-div}
 use native.Mathlib.Omega.{arith}
 use lib.Dec.{eqb}
 use lib.IntN.{ℤ, pos, negsuc, negℤ, natAbs, _+ℤ_, _*ℤ_}
-use lib.ListN.{getD}
 use lib.Signed.{quotZ}
 use borrow.Author.Tests.{eqb-true, eq-eqb}
 use Rattle.text.specs.Utf8.{utf8}
@@ -19,15 +18,17 @@ use Rattle.text.proofs.Utf8Agrees as Utf8Agrees
 use Rattle.number.specs.Widths.{inSigned}
 use Rattle.number.proofs.Zed.{abs-neg, eq-of, P-neg, N-neg, mul-P, mul-N}
 use Rattle.refusal.specs.Outcome.{Outcome, accepted, refused}
-use Rattle.interval.specs.Units.{rank}
-use Rattle.interval.specs.Grammar.{Component, Divides}
-use Rattle.interval.specs.Division.{divide}
+use Rattle.component.specs.Units.{rank}
+use Rattle.component.specs.Grammar.{Component, Divides}
+use Rattle.component.specs.Division.{divide}
+use Rattle.component.specs.Amount.{unitFor}
+use Rattle.component.specs.declared.IntervalUnit.{IntervalUnit}
+use Rattle.component.specs.declared.IntervalUnit.the-variants.{Year, Day}
+use Rattle.component.proofs.Agreement.{agrees, divided-utf8}
+use Rattle.component.proofs.Keying.{same-unit}
 use Rattle.interval.specs.Contribution.{Counts, counts}
-use Rattle.interval.specs.Answer.{unitFor, gives, fits, plus, zeros, totals, has, twice, onTotals, onDivision, monthDayNano, DayTime, dayTimeOf, toYearMonths, dayTimeFits, toDayTime, orNarrowed, narrowed, yearMonth, dayTime}
+use Rattle.interval.specs.Answer.{gives, fits, plus, zeros, totals, has, twice, onTotals, onDivision, monthDayNano, DayTime, dayTimeOf, toYearMonths, dayTimeFits, toDayTime, orNarrowed, narrowed, yearMonth, dayTime}
 use Rattle.interval.specs.Meaning.{Runs, done, add, Repeats, two, Means, totalled, not-utf8, undivided, repeated, unfit, YearMonths, months-alone, DayTimes, in-days, Narrows, held, unheld, no-counts}
-use Rattle.interval.specs.declared.IntervalUnit.{IntervalUnit}
-use Rattle.interval.specs.declared.IntervalUnit.the-variants.{Century, Decade, Year, Month, Week, Day, Hour, Minute, Second, Millisecond, Microsecond, Nanosecond}
-use Rattle.interval.proofs.Agreement.{agrees, divided-utf8}
 
 -- ---- a test or an option that is not the one is the other
 
@@ -44,27 +45,6 @@ or-true true = refl
 or-true false = refl
 
 -- ---- a unit comes twice
-
-units : List IntervalUnit
-units = Century ∷ Decade ∷ Year ∷ Month ∷ Week ∷ Day ∷ Hour ∷ Minute ∷ Second ∷ Millisecond ∷ Microsecond ∷ Nanosecond ∷ []
-
-at-rank : (u : IntervalUnit) → getD units (rank u) Century ≡ u
-unfolding rank units
-at-rank Century = refl
-at-rank Decade = refl
-at-rank Year = refl
-at-rank Month = refl
-at-rank Week = refl
-at-rank Day = refl
-at-rank Hour = refl
-at-rank Minute = refl
-at-rank Second = refl
-at-rank Millisecond = refl
-at-rank Microsecond = refl
-at-rank Nanosecond = refl
-
-pub same-unit : (u v : IntervalUnit) → eqb (rank u) (rank v) ≡ true → u ≡ v
-same-unit u v e = sym (at-rank u) ∙ ap (λ (k : ℕ). getD units k Century) (eqb-true (rank u) (rank v) e) ∙ at-rank v
 
 module _ (u : IntervalUnit) where
   -- a component of the list has the unit v

@@ -19,17 +19,19 @@ use Rattle.text.proofs.Bools.{by-test}
 use Rattle.number.specs.Widths.{signed}
 use Rattle.number.proofs.Ranges.{rd}
 use Rattle.refusal.specs.Outcome.{Outcome, refused, numberIn}
-use Rattle.interval.specs.Units.{rank}
-use Rattle.interval.specs.Grammar.{precision, Component}
-use Rattle.interval.specs.Division.{step, bad, before, divide}
-use Rattle.interval.specs.Contribution.{Value, Counts, amountOf, contribution}
-use Rattle.interval.specs.Answer.{orElse, unitFor, gives, zeros, onTotals, onDivision, monthDayNano}
-use Rattle.interval.specs.Read.{amountFrom, Holds, LastIs, MoreIs, added, onAdded}
-use Rattle.interval.specs.declared.IntervalAmount.{IntervalAmount}
-use Rattle.interval.specs.declared.IntervalUnit.{IntervalUnit}
-use Rattle.interval.specs.declared.IntervalUnit.the-variants.{Century, Decade, Year, Month, Week, Day, Hour, Minute, Second, Millisecond, Microsecond, Nanosecond}
+use Rattle.component.specs.Units.{rank}
+use Rattle.component.specs.Grammar.{precision, Component}
+use Rattle.component.specs.Division.{step, bad, before, divide}
+use Rattle.component.specs.Amount.{Value, amountOf, orElse, unitFor}
+use Rattle.component.specs.Read.{amountFrom, Holds, LastIs, MoreIs}
+use Rattle.component.specs.declared.IntervalAmount.{IntervalAmount}
+use Rattle.component.specs.declared.IntervalUnit.{IntervalUnit}
+use Rattle.component.specs.declared.IntervalUnit.the-variants.{Century, Decade, Year, Month, Week, Day, Hour, Minute, Second, Millisecond, Microsecond, Nanosecond}
+use Rattle.component.proofs.Steps.{at-bad, at-last, at-more}
+use Rattle.interval.specs.Contribution.{Counts, contribution}
+use Rattle.interval.specs.Answer.{gives, zeros, onTotals, onDivision, monthDayNano}
+use Rattle.interval.specs.Read.{added, onAdded}
 use Rattle.interval.proofs.Adding.{small-fits}
-use Rattle.interval.proofs.Steps.{at-bad, at-last, at-more}
 use Rattle.interval.proofs.Turns.{mark, unseen, addTo, settle, settle-start, settle-bad, settle-last, settle-more, settle-same}
 use Rattle.interval.proofs.Demand3.{but-eight, eight}
 

@@ -10,13 +10,14 @@ use Rattle.text.specs.Utf8.{encode, wellFormed}
 use Rattle.text.specs.WhiteSpace.{white1, white2, white3, whiteOf}
 use Rattle.refusal.specs.Outcome.{Outcome, accepted, refused}
 use Rattle.text.specs.Quoted.{bytes}
-use Rattle.interval.specs.Units.{rank, spellings, same, oneOf, find, low, kelvin, lower, unitOf, present, isUnit}
-use Rattle.interval.specs.Grammar.{precision, wholeFits}
-use Rattle.interval.specs.Division.{negative, signLen, pointLen, digitsLen, amountLen, wordLen, endStep, unitStep, restStep, amountStep, step, before, then, divideBy, divide}
-use Rattle.interval.specs.Contribution.{Counts, counts, fracOf, unsignedOf, amountOf, times, wholeTimes, fracTimes, contribution}
-use Rattle.interval.specs.Answer.{orElse, spelled, unitFor, gives, fits, plus, totals, has, twice, onTotals, onDivision, monthDayNano, DayTime, dayTimeOf, toYearMonths, dayTimeFits, toDayTime, orNarrowed, narrowed, yearMonth, dayTime, plainMonthDayNano}
-use Rattle.interval.specs.declared.IntervalUnit.{IntervalUnit}
-use Rattle.interval.specs.declared.IntervalUnit.the-variants.{Century, Month, Nanosecond}
+use Rattle.component.specs.Units.{rank, spellings, same, oneOf, find, low, kelvin, lower, unitOf, present, isUnit}
+use Rattle.component.specs.Grammar.{precision, wholeFits}
+use Rattle.component.specs.Division.{negative, signLen, pointLen, digitsLen, amountLen, wordLen, endStep, unitStep, restStep, amountStep, step, before, then, divideBy, divide}
+use Rattle.component.specs.Amount.{fracOf, unsignedOf, amountOf, orElse, spelled, unitFor}
+use Rattle.component.specs.declared.IntervalUnit.{IntervalUnit}
+use Rattle.component.specs.declared.IntervalUnit.the-variants.{Century, Month, Nanosecond}
+use Rattle.interval.specs.Contribution.{Counts, counts, times, wholeTimes, fracTimes, contribution}
+use Rattle.interval.specs.Answer.{gives, fits, plus, totals, has, twice, onTotals, onDivision, monthDayNano, DayTime, dayTimeOf, toYearMonths, dayTimeFits, toDayTime, orNarrowed, narrowed, yearMonth, dayTime, plainMonthDayNano}
 
 -- an answer in one of the forms
 pub data Said : Type 0 where

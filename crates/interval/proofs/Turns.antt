@@ -8,12 +8,13 @@ use Prim.Native.Nat.{ℕ}
 use lib.Dec.{eqb}
 use Rattle.text.proofs.Bools.{by-test}
 use Rattle.refusal.specs.Outcome.{Outcome, refused}
-use Rattle.interval.specs.Units.{rank}
-use Rattle.interval.specs.Grammar.{Component}
-use Rattle.interval.specs.Division.{before}
+use Rattle.component.specs.Units.{rank}
+use Rattle.component.specs.Grammar.{Component}
+use Rattle.component.specs.Division.{before}
+use Rattle.component.specs.Amount.{unitFor}
+use Rattle.component.specs.declared.IntervalUnit.{IntervalUnit}
 use Rattle.interval.specs.Contribution.{Counts}
-use Rattle.interval.specs.Answer.{unitFor, gives, fits, plus, zeros, totals, has, twice, onTotals, onDivision}
-use Rattle.interval.specs.declared.IntervalUnit.{IntervalUnit}
+use Rattle.interval.specs.Answer.{gives, fits, plus, zeros, totals, has, twice, onTotals, onDivision}
 
 -- ---- units seen
 

@@ -11,26 +11,13 @@ use lib.Signed.{quotZ}
 use Rattle.text.specs.Utf8.{utf8}
 use Rattle.number.specs.Widths.{inSigned}
 use Rattle.refusal.specs.Outcome.{Outcome, accepted, refused}
-use Rattle.interval.specs.Units.{rank, unitOf}
-use Rattle.interval.specs.Grammar.{Component}
-use Rattle.interval.specs.Division.{divide}
-use Rattle.interval.specs.Contribution.{Counts, counts, amountOf, contribution}
-use Rattle.interval.specs.declared.IntervalUnit.{IntervalUnit}
-use Rattle.interval.specs.declared.IntervalUnit.the-variants.{Year, Month, Day}
-
--- the unit found, else the default u
-unfoldable pub orElse : IntervalUnit → Option IntervalUnit → IntervalUnit
-orElse u none = u
-orElse u (some v) = v
-
--- the unit that a unit word spells; the default u where there is no word
-unfoldable pub spelled : IntervalUnit → Option (List ℕ) → IntervalUnit
-spelled u none = u
-spelled u (some w) = orElse u (unitOf w)
-
--- the unit of a component: "the one spelled, else the default"
-unfoldable pub unitFor : IntervalUnit → Component → IntervalUnit
-unitFor u c = spelled u (c .unit)
+use Rattle.component.specs.Units.{rank}
+use Rattle.component.specs.Grammar.{Component}
+use Rattle.component.specs.Division.{divide}
+use Rattle.component.specs.Amount.{amountOf, unitFor}
+use Rattle.component.specs.declared.IntervalUnit.{IntervalUnit}
+use Rattle.component.specs.declared.IntervalUnit.the-variants.{Year, Month, Day}
+use Rattle.interval.specs.Contribution.{Counts, counts, contribution}
 
 -- the contribution of a component
 unfoldable pub gives : ℕ → IntervalUnit → Component → Counts

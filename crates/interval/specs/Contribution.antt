@@ -1,40 +1,13 @@
 -- What a component contributes: document 01, "Interval grammar", the table of units. A fraction goes to the count that the table names,
 -- cut toward zero, and no further. PostgreSQL 15, section 8.5.4, instead rounds fractions of a year to months, and spills those of a
 -- month into days and microseconds and those of a week into days. The limit n is the most digits behind a point. Assumes nothing.
-use mathlib.Core.Bool.{Bool}
-use mathlib.Core.List.{List, [], _∷_}
-use Prim.Native.Nat.{ℕ, _+_, _-_, _*_, _/_, _^_}
+use Prim.Native.Nat.{ℕ, _+_, _*_, _/_, _^_}
 use lib.IntN.{ℤ, pos}
-use lib.ListN.{length, take, drop}
-use Rattle.text.specs.Digits.{value, run}
 use Rattle.number.specs.Widths.{signed}
-use Rattle.interval.specs.Division.{negative, signLen}
+use Rattle.component.specs.Amount.{Value}
+use Rattle.component.specs.declared.IntervalUnit.{IntervalUnit}
+use Rattle.component.specs.declared.IntervalUnit.the-variants.{Century, Decade, Year, Month, Week, Day, Hour, Minute, Second, Millisecond, Microsecond, Nanosecond}
 use Rattle.interval.specs.declared.Interval.{Interval}
-use Rattle.interval.specs.declared.IntervalUnit.{IntervalUnit}
-use Rattle.interval.specs.declared.IntervalUnit.the-variants.{Century, Decade, Year, Month, Week, Day, Hour, Minute, Second, Millisecond, Microsecond, Nanosecond}
-
--- what an amount says: its sign, which is the fraction's too, its whole part, and its fraction times 10^n
-pub record Value : Type 0 where
-  pub neg : Bool
-  pub integer : ℕ
-  pub frac : ℕ
-
--- one of them
-abbrev pub valued : Bool → ℕ → ℕ → Value
-valued m i f = record { neg = m; integer = i; frac = f }
-
--- the fraction from the point on, times 10^n: k digits behind the point count 10^(n - k) each
-unfoldable pub fracOf : ℕ → List ℕ → ℕ
-fracOf n [] = 0
-fracOf n (b ∷ f) = value 0 f * 10 ^ (n - length f)
-
--- what is behind the sign: digits as far as they go, then perhaps a point and the fraction
-unfoldable pub unsignedOf : ℕ → Bool → List ℕ → Value
-unsignedOf n m t = valued m (value 0 (take (run t) t)) (fracOf n (drop (run t) t))
-
--- what an amount says; `Rattle.interval.proofs.AmountLaws` has it for each form of the grammar (`whole-says` and so on)
-unfoldable pub amountOf : ℕ → List ℕ → Value
-amountOf n a = unsignedOf n (negative a) (drop (signLen (negative a)) a)
 
 -- the three counts, each apart
 pub record Counts : Type 0 where

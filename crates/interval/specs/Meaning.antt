@@ -9,10 +9,11 @@ use lib.IntN.{ℤ, pos, _+ℤ_, _*ℤ_}
 use Rattle.text.specs.Utf8.{Utf8}
 use Rattle.number.specs.Widths.{inSigned}
 use Rattle.refusal.specs.Outcome.{Outcome, accepted, refused}
-use Rattle.interval.specs.Grammar.{Component, Divides}
+use Rattle.component.specs.Grammar.{Component, Divides}
+use Rattle.component.specs.Amount.{unitFor}
+use Rattle.component.specs.declared.IntervalUnit.{IntervalUnit}
 use Rattle.interval.specs.Contribution.{Counts, counts}
-use Rattle.interval.specs.Answer.{unitFor, gives, fits, plus, zeros, DayTime, dayTimeOf}
-use Rattle.interval.specs.declared.IntervalUnit.{IntervalUnit}
+use Rattle.interval.specs.Answer.{gives, fits, plus, zeros, DayTime, dayTimeOf}
 
 -- running totals: from c, the components leave e; "each component adds its contribution, count by count, to what the one before left,
 -- and all three must fit each time"
@@ -26,7 +27,7 @@ pub data Runs (n : ℕ) (u : IntervalUnit) : Counts → List Component → Count
 pub data Repeats (u : IntervalUnit) : List Component → Type 0 where
   two : (c e : Component) (d d' d'' : List Component) → unitFor u c ≡ unitFor u e → Repeats u (d ++ (c ∷ (d' ++ (e ∷ d''))))
 
--- a text and its answer, the first that holds; a text that has a division is UTF-8 (`Rattle.interval.proofs.Agreement.well-formed`)
+-- a text and its answer, the first that holds; a text that has a division is UTF-8 (`Rattle.component.proofs.Agreement.well-formed`)
 pub data Means (n : ℕ) (u : IntervalUnit) (t : List ℕ) : Outcome Counts → Type 0 where
   -- a division, no unit twice, and running totals that fit: the last of them
   totalled : {d : List Component} {e : Counts} → Divides n t d → (Repeats u d → ⊥) → Runs n u zeros d e → Means n u t (accepted e)

@@ -3,32 +3,18 @@ use crate::Days;
 use crate::Interval;
 use crate::IntervalParseConfig;
 use crate::IntervalRead;
-use crate::IntervalUnit;
 use crate::Months;
 use crate::Nanos;
-use crate::Piece;
 use crate::Sum;
-use crate::UnitRead;
-use crate::reader;
+use component::IntervalUnit;
+use component::Piece;
 use refusal::Refusal;
 ghost use mathlib.Core.Path.{_≡_};
 ghost use mathlib.Core.Bool.{cond};
 ghost use Rattle.refusal.specs.Outcome.{refused};
-ghost use Rattle.interval.specs.Grammar.{precision};
-ghost use Rattle.interval.specs.Answer.{orElse, onTotals, monthDayNano};
-ghost use Rattle.interval.specs.Read.{unitRead, sumOf, intervalOutcome};
-
-impl UnitRead {
-    // Rust's `IntervalUnit::from_str_or_config`.
-    pub fn or_default(self, default_unit: IntervalUnit) -> IntervalUnit
-        ensures { λ r. ⌜ r ≡ orElse «default_unit» (unitRead self) ⌝ }
-    {
-        match self {
-            UnitRead::Unit(unit) => unit,
-            UnitRead::None => default_unit,
-        }
-    }
-}
+ghost use Rattle.component.specs.Grammar.{precision};
+ghost use Rattle.interval.specs.Answer.{onTotals, monthDayNano};
+ghost use Rattle.interval.specs.Read.{sumOf, intervalOutcome};
 
 // The answer where the text is read to its end: a repeated unit comes before a count that does not fit.
 pub fn settled(repeated: bool, total: Sum) -> IntervalRead
@@ -65,7 +51,7 @@ pub fn parse_interval_components(value: &[u8], default_unit: IntervalUnit) -> In
         nanos: Nanos(0),
     });
     loop {
-        match reader::component_at(value, at) {
+        match component::component(value, at) {
             Piece::Bad => {
                 return IntervalRead::Refused(Refusal::Interval.of(value));
             }

@@ -1,11 +1,11 @@
 // What an amount of a unit adds to the counts of an interval: Rust's `Interval::add`.
 use crate::Days;
 use crate::Interval;
-use crate::IntervalAmount;
-use crate::IntervalUnit;
 use crate::Months;
 use crate::Nanos;
 use crate::Sum;
+use component::IntervalAmount;
+use component::IntervalUnit;
 use number::Int32;
 use number::Int64;
 use number::checked;
@@ -15,10 +15,12 @@ ghost use Prim.Native.Nat.{ℕ, _+_, _*_, _^_, _≤_, _<_};
 ghost use lib.IntN.{pos, natAbs, _+ℤ_, _*ℤ_};
 ghost use lib.Signed.{quotZ};
 ghost use Rattle.number.specs.Widths.{fit, signed, int32, int64};
-ghost use Rattle.interval.specs.Grammar.{precision};
-ghost use Rattle.interval.specs.Contribution.{Value, times, wholeTimes, fracTimes, contribution, countsOf, counts as threeOf};
+ghost use Rattle.component.specs.Grammar.{precision};
+ghost use Rattle.component.specs.Amount.{Value};
+ghost use Rattle.component.specs.Read.{amountFrom};
+ghost use Rattle.interval.specs.Contribution.{times, wholeTimes, fracTimes, contribution, countsOf, counts as threeOf};
 ghost use Rattle.interval.specs.Answer.{plus};
-ghost use Rattle.interval.specs.Read.{amountFrom, sumOf, Most, together, fitting, added, onAdded};
+ghost use Rattle.interval.specs.Read.{sumOf, Most, together, fitting, added, onAdded};
 
 // A whole part times k and a part of a fraction, as a count of 32 bits.
 pub fn count32(whole: i64, k: u32, part: i64) -> Int32

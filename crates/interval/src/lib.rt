@@ -1,36 +1,17 @@
 // Intervals: amounts with their units, in the text form of PostgreSQL's interval input.
+use component::IntervalUnit;
 use number::Int32;
 use refusal::Read32;
 use refusal::Refusal;
 ghost use mathlib.Core.Path.{_≡_};
 ghost use Rattle.refusal.specs.Outcome.{outcome32};
-ghost use Rattle.interval.specs.Grammar.{precision};
+ghost use Rattle.component.specs.Grammar.{precision};
 ghost use Rattle.interval.specs.Answer.{monthDayNano, plainMonthDayNano, yearMonth, dayTime};
 ghost use Rattle.interval.specs.Read.{intervalOutcome, dayTimeOutcome};
 
-mod amount;
 mod components;
 mod contributions;
 mod narrow;
-mod reader;
-mod split;
-mod unit;
-
-// The units of an interval.
-pub enum IntervalUnit {
-    Century,
-    Decade,
-    Year,
-    Month,
-    Week,
-    Day,
-    Hour,
-    Minute,
-    Second,
-    Millisecond,
-    Microsecond,
-    Nanosecond,
-}
 
 // A count of months.
 pub struct Months(pub i32);
@@ -46,50 +27,6 @@ pub struct Interval {
     pub months: Months,
     pub days: Days,
     pub nanos: Nanos,
-}
-
-// An amount: its whole part, and its fraction times ten to the limit of fraction digits; both carry the sign.
-pub struct IntervalAmount {
-    pub integer: i64,
-    pub frac: i64,
-}
-
-// The unit that a word spells, or none.
-pub enum UnitRead {
-    Unit(IntervalUnit),
-    None,
-}
-
-// A letter of a unit word: 1 for a to 26 for z, 0 where it is none; and how many bytes it takes.
-pub struct Letter {
-    pub code: u64,
-    pub width: usize,
-}
-
-// Letters of a text, packed as digits of base 32, and where they end.
-pub struct Letters {
-    pub key: u64,
-    pub end: usize,
-}
-
-// Digits of a text as a number, and where they end.
-pub struct Number {
-    pub value: u64,
-    pub next: usize,
-}
-
-// The amount at a place, and where it ends; or none.
-pub enum AmountRead {
-    Read(IntervalAmount, usize),
-    Bad,
-}
-
-// The component at a place: none, one that ends the text, or one with its unit and the place behind the white space that follows.
-// No unit stands for the default.
-pub enum Piece {
-    Bad,
-    Last(IntervalAmount, UnitRead),
-    More(IntervalAmount, IntervalUnit, usize),
 }
 
 // Counts, where they fit.

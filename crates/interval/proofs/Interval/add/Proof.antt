@@ -1,7 +1,7 @@
 -- `interval::Interval::add` meets its contract: the contribution fits and goes to the totals, or it does not. Assumes nothing.
 use borrow.Author.Needs.{needs}
 use mathlib.Core.Path.{sym, ap, _∙_}
-use Rattle.interval.specs.Grammar.{precision}
+use Rattle.component.specs.Grammar.{precision}
 use Rattle.interval.specs.Contribution.{contribution, countsOf}
 use Rattle.interval.specs.Read.{sumOf}
 use Rattle.interval.proofs.Adding.{adds, over}

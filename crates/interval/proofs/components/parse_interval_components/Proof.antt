@@ -8,7 +8,8 @@ use mir.Syntax.{w64}
 use mir.Val.{SFits}
 use borrow.Author.Needs.{needs}
 use mathlib.Core.Bool.{true}
-use Rattle.interval.specs.Read.{unitRead, sumOf, LastIs, MoreIs, pieceIs}
+use Rattle.component.specs.Read.{unitRead, LastIs, MoreIs, pieceIs}
+use Rattle.interval.specs.Read.{sumOf}
 use Rattle.interval.proofs.Folding.{Goes, rank-below, frac-small, starts, bad-answer, last-answer, more-goes}
 use Rattle.interval.proofs.components.parse_interval_components.Statement.{statement}
 use Rattle.interval.proofs.components.parse_interval_components.Tie as tie
@@ -23,8 +24,8 @@ abbrev μ-loop : tie.MeasureT-loop
 loop-holds : tie.Need-loop-holds Inv-loop μ-loop
 loop-holds c = (omega arith, refl, starts (c .before .args .value .now) (c .before .args .default-unit))
 
-component-at-requires : tie.Need-component-at-requires Inv-loop μ-loop
-component-at-requires c κs = search needs
+component-requires : tie.Need-component-requires Inv-loop μ-loop
+component-requires c κs = search needs
 
 enum-told : tie.Need-enum-told Inv-loop μ-loop
 enum-told c = search needs
@@ -39,7 +40,7 @@ returns c =
     let q = t .before .before in
     let l = q .before in
     let x = l .before .before .args in
-    bad-answer (x .value .now) (x .default-unit) (l .loop .at) (l .loop .seen) (l .loop .repeated) (sumOf (l .loop .total)) (l .loop .inv .2) (rw (t .enum-told .given .1) at (q .component-at .ensures)) (c .of .ensures)
+    bad-answer (x .value .now) (x .default-unit) (l .loop .at) (l .loop .seen) (l .loop .repeated) (sumOf (l .loop .total)) (l .loop .inv .2) (rw (t .enum-told .given .1) at (q .component .ensures)) (c .of .ensures)
 
 enum-known-amount : tie.Need-enum-known-amount Inv-loop μ-loop
 enum-known-amount c = search needs
@@ -60,7 +61,7 @@ add-requires c κs =
     let q = p .before .before in
     let l = q .before in
     let x = l .before .before .args in
-    let L : LastIs (x .value .now) (l .loop .at) (p .amount .given .0 .0) (unitRead (p .amount .given .0 .1 .0)) = rw (p .amount .given .1) at (q .component-at .ensures) in
+    let L : LastIs (x .value .now) (l .loop .at) (p .amount .given .0 .0) (unitRead (p .amount .given .0 .1 .0)) = rw (p .amount .given .1) at (q .component .ensures) in
     frac-small (p .amount .given .0 .0) (L .holds .small)
 
 settled-requires : tie.Need-settled-requires Inv-loop μ-loop
@@ -73,7 +74,7 @@ returns-2 c =
     let q = p .before .before in
     let l = q .before in
     let x = l .before .before .args in
-    let L : LastIs (x .value .now) (l .loop .at) (p .amount .given .0 .0) (unitRead (p .amount .given .0 .1 .0)) = rw (p .amount .given .1) at (q .component-at .ensures) in
+    let L : LastIs (x .value .now) (l .loop .at) (p .amount .given .0 .0) (unitRead (p .amount .given .0 .1 .0)) = rw (p .amount .given .1) at (q .component .ensures) in
     let k = c .before .before .before .before in
     let o = k .before in
     let F : SFits w64 (p .amount .given .0 .0 .integer) = record { sfits = c .before .before .before .struct-told .given .0 .1 } in
@@ -98,7 +99,7 @@ add-requires-2 c κs =
     let q = p .before .before in
     let l = q .before in
     let x = l .before .before .args in
-    let M : MoreIs (x .value .now) (l .loop .at) (p .amount2 .given .0 .0) (p .amount2 .given .0 .1 .0) (p .amount2 .given .0 .1 .1 .0) = rw (p .amount2 .given .1) at (q .component-at .ensures) in
+    let M : MoreIs (x .value .now) (l .loop .at) (p .amount2 .given .0 .0) (p .amount2 .given .0 .1 .0) (p .amount2 .given .0 .1 .1 .0) = rw (p .amount2 .given .1) at (q .component .ensures) in
     frac-small (p .amount2 .given .0 .0) (M .holds .small)
 
 loop-less : tie.Need-loop-less Inv-loop μ-loop
@@ -108,7 +109,7 @@ loop-less c =
     let q = p .before .before in
     let l = q .before in
     let x = l .before .before .args in
-    let M : MoreIs (x .value .now) (l .loop .at) (p .amount2 .given .0 .0) (p .amount2 .given .0 .1 .0) (p .amount2 .given .0 .1 .1 .0) = rw (p .amount2 .given .1) at (q .component-at .ensures) in
+    let M : MoreIs (x .value .now) (l .loop .at) (p .amount2 .given .0 .0) (p .amount2 .given .0 .1 .0) (p .amount2 .given .0 .1 .1 .0) = rw (p .amount2 .given .1) at (q .component .ensures) in
     omega (arith, M .further, M .inside)
 
 loop-again : tie.Need-loop-again Inv-loop μ-loop
@@ -118,7 +119,7 @@ loop-again c =
     let q = p .before .before in
     let l = q .before in
     let x = l .before .before .args in
-    let M : MoreIs (x .value .now) (l .loop .at) (p .amount2 .given .0 .0) (p .amount2 .given .0 .1 .0) (p .amount2 .given .0 .1 .1 .0) = rw (p .amount2 .given .1) at (q .component-at .ensures) in
+    let M : MoreIs (x .value .now) (l .loop .at) (p .amount2 .given .0 .0) (p .amount2 .given .0 .1 .0) (p .amount2 .given .0 .1 .1 .0) = rw (p .amount2 .given .1) at (q .component .ensures) in
     let m = c .before .before .before .mark2 in
     let F : SFits w64 (p .amount2 .given .0 .0 .integer) = record { sfits = c .before .before .struct-told3 .given .0 .1 } in
     (M .inside, length-set (l .loop .seen) (m .result) true ∙ l .loop .inv .1, more-goes (x .value .now) (x .default-unit) (l .loop .at) (l .loop .seen) (l .loop .repeated) (sumOf (l .loop .total)) (l .loop .inv .2) (p .amount2 .given .0 .0) (p .amount2 .given .0 .1 .0) (m .ensures) F (c .add2 .ensures) (l .loop .inv .1) M)
@@ -130,7 +131,7 @@ parse-interval-components-spec =
     Inv-loop
     μ-loop
     loop-holds
-    component-at-requires
+    component-requires
     enum-told
     of-requires
     returns

@@ -7,7 +7,7 @@ use lib.IntN.{pos}
 use mir.Syntax.{w64}
 use mir.Val.{SFits}
 use Rattle.number.specs.Widths.{fit}
-use Rattle.interval.specs.Grammar.{precision}
+use Rattle.component.specs.Grammar.{precision}
 use Rattle.interval.specs.Contribution.{wholeTimes, fracTimes}
 use Rattle.interval.proofs.Adding.{cut-whole, cut-fits, three}
 use Rattle.interval.proofs.contributions.days_and_nanos.Statement.{statement}

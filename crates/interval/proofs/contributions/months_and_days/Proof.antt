@@ -6,7 +6,7 @@ use lib.IntN.{pos}
 use mir.Syntax.{w64}
 use mir.Val.{SFits}
 use Rattle.number.specs.Widths.{fit}
-use Rattle.interval.specs.Grammar.{precision}
+use Rattle.component.specs.Grammar.{precision}
 use Rattle.interval.specs.Contribution.{wholeTimes, fracTimes}
 use Rattle.interval.proofs.Adding.{part-most, cut-whole, cut-days, three}
 use Rattle.interval.proofs.contributions.months_and_days.Statement.{statement}

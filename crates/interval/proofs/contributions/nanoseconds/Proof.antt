@@ -4,7 +4,7 @@ use mathlib.Core.Path.{refl, _∙_}
 use lib.IntN.{pos}
 use mir.Syntax.{w64}
 use mir.Val.{SFits}
-use Rattle.interval.specs.Grammar.{precision}
+use Rattle.component.specs.Grammar.{precision}
 use Rattle.interval.specs.Contribution.{times}
 use Rattle.interval.proofs.Adding.{whole-fits, three}
 use Rattle.interval.proofs.contributions.nanoseconds.Statement.{statement}

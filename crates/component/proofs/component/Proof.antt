@@ -1,0 +1,23 @@
+-- `component::component` meets its contract: nothing stands past the end, and a reader finds what stands before it. Assumes nothing.
+use native.Mathlib.Omega.{arith}
+use borrow.Author.Needs.{needs}
+use Rattle.component.specs.Grammar.{precision}
+use Rattle.component.specs.Read.{pieceIs}
+use Rattle.component.proofs.Steps.{past-end}
+use Rattle.component.proofs.component.Statement.{statement}
+use Rattle.component.proofs.component.Tie as tie
+
+returns : tie.Need-returns
+unfolding pieceIs
+returns c =
+    let x = c .before .before .args in
+    past-end precision (x .text .now) (x .at) (omega (arith, c .if1 .taken))
+
+component-at-requires : tie.Need-component-at-requires
+component-at-requires c κs = search needs
+
+returns-2 : tie.Need-returns-2
+returns-2 c = search needs
+
+pub component-spec : {M : Type 1} → statement M
+component-spec = tie.close (tie.spec returns component-at-requires returns-2)

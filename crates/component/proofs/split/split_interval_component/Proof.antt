@@ -1,0 +1,35 @@
+-- `component::split::split_interval_component` meets its contract: an amount and what follows it, or no amount. Assumes nothing.
+use borrow.Author.Needs.{needs}
+use Rattle.component.specs.Grammar.{precision}
+use Rattle.component.specs.Read.{amountIs, pieceIs}
+use Rattle.component.proofs.Steps.{no-amount}
+use Rattle.component.proofs.split.split_interval_component.Statement.{statement}
+use Rattle.component.proofs.split.split_interval_component.Tie as tie
+
+amount-at-requires : tie.Need-amount-at-requires
+amount-at-requires c κs = search needs
+
+enum-known-amount : tie.Need-enum-known-amount
+enum-known-amount c = search needs
+
+unit-at-requires : tie.Need-unit-at-requires
+unfolding amountIs
+unit-at-requires c κs = rw (c .before .amount .given .1) at (c .before .before .before .amount-at .ensures)
+
+enum-told : tie.Need-enum-told
+enum-told c = search needs
+
+returns : tie.Need-returns
+returns c = search needs
+
+returns-2 : tie.Need-returns-2
+unfolding amountIs pieceIs
+returns-2 c =
+    let a = c .before .before in
+    let x = a .before .before .args in
+    no-amount precision (x .text .now) (x .at) (rw (c .enum-told .given .1) at (a .amount-at .ensures))
+
+pub split-interval-component-spec : {M : Type 1} → statement M
+split-interval-component-spec =
+    tie.close
+    (tie.spec amount-at-requires enum-known-amount unit-at-requires enum-told returns returns-2)

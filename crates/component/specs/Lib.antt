@@ -1,0 +1,7 @@
+-- What the contracts of `component` cite.
+pub mod Units
+pub mod Grammar
+pub mod Division
+pub mod Amount
+pub mod Keys
+pub mod Read
