@@ -7,10 +7,10 @@ use Prim.Native.Nat.{ℕ, zero, suc, _≤_}
 use native.Mathlib.Omega.{arith}
 use lib.ListN.{length}
 use Rattle.refusal.specs.Outcome.{Outcome}
-use Rattle.interval.specs.Grammar.{precision}
+use Rattle.component.specs.Grammar.{precision}
+use Rattle.component.specs.declared.IntervalUnit.{IntervalUnit}
 use Rattle.interval.specs.Contribution.{Counts}
 use Rattle.interval.specs.Answer.{monthDayNano}
-use Rattle.interval.specs.declared.IntervalUnit.{IntervalUnit}
 use Rattle.cullpethi.specs.Cells.{place, inUnit}
 
 pub past : (l : List IntervalUnit) (n : ℕ) → length l ≤ n → none ≡ place l n

@@ -17,11 +17,12 @@ use Rattle.time.specs.Answer.{timeOfDay, timeNanos}
 use Rattle.date.specs.Answer.{toHyphen, extendedYmd, shortDay, plainDay}
 use Rattle.date.specs.Grammar.{noDigits}
 use Rattle.column.specs.Columns.{Date32, column}
-use Rattle.interval.specs.Units.{rank, spellings, same, oneOf, find, low, kelvin, lower, unitOf, present, isUnit}
-use Rattle.interval.specs.Grammar.{precision, wholeFits}
-use Rattle.interval.specs.Division.{negative, signLen, pointLen, digitsLen, amountLen, wordLen, endStep, unitStep, restStep, amountStep, step, before, then, divideBy, divide}
-use Rattle.interval.specs.Contribution.{fracOf, unsignedOf, amountOf, times, wholeTimes, fracTimes, contribution}
-use Rattle.interval.specs.Answer.{orElse, spelled, unitFor, gives, fits, plus, totals, has, twice, onTotals, onDivision, monthDayNano, plainMonthDayNano}
+use Rattle.component.specs.Units.{rank, spellings, same, oneOf, find, low, kelvin, lower, unitOf, present, isUnit}
+use Rattle.component.specs.Grammar.{precision, wholeFits}
+use Rattle.component.specs.Division.{negative, signLen, pointLen, digitsLen, amountLen, wordLen, endStep, unitStep, restStep, amountStep, step, before, then, divideBy, divide}
+use Rattle.component.specs.Amount.{fracOf, unsignedOf, amountOf, orElse, spelled, unitFor}
+use Rattle.interval.specs.Contribution.{times, wholeTimes, fracTimes, contribution}
+use Rattle.interval.specs.Answer.{gives, fits, plus, totals, has, twice, onTotals, onDivision, monthDayNano, plainMonthDayNano}
 
 -- a reader, a text, and the answer: the counts in their order, or a refusal
 pub data Row : Type 0 where

@@ -5,11 +5,11 @@ use mathlib.Core.List.{List, [], _∷_}
 use mathlib.Core.Option.{Option, none, some}
 use Prim.Native.Nat.{ℕ, zero, suc}
 use Rattle.refusal.specs.Outcome.{Outcome, accepted, refused}
-use Rattle.interval.specs.Grammar.{precision}
+use Rattle.component.specs.Grammar.{precision}
+use Rattle.component.specs.declared.IntervalUnit.{IntervalUnit}
+use Rattle.component.specs.declared.IntervalUnit.the-variants.{Century, Decade, Year, Month, Week, Day, Hour, Minute, Second, Millisecond, Microsecond, Nanosecond}
 use Rattle.interval.specs.Contribution.{Counts}
 use Rattle.interval.specs.Answer.{monthDayNano}
-use Rattle.interval.specs.declared.IntervalUnit.{IntervalUnit}
-use Rattle.interval.specs.declared.IntervalUnit.the-variants.{Century, Decade, Year, Month, Week, Day, Hour, Minute, Second, Millisecond, Microsecond, Nanosecond}
 
 -- accepted: status 0, and the cells hold the value; refused: the refusal's number, and the cells are as they were
 abbrev pub Told : {A : Type 0} → Outcome A → ℕ → A → A → Type 0

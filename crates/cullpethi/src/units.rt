@@ -1,8 +1,8 @@
 // The default units by their numbers.
-use interval::IntervalUnit;
-use interval::UnitRead;
+use component::IntervalUnit;
+use component::UnitRead;
 ghost use mathlib.Core.Path.{_≡_};
-ghost use Rattle.interval.specs.Read.{unitRead};
+ghost use Rattle.component.specs.Read.{unitRead};
 ghost use Rattle.cullpethi.specs.Cells.{unitNumbered};
 
 pub fn unit_numbered(number: u8) -> UnitRead

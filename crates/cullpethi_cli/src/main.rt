@@ -1,6 +1,6 @@
 // The command line: reads a text, or each line of standard input, by the reader that is named, and writes the counts or the refusal.
 // A program has no exit status of its own, so behind `--status` it is written to descriptor 3, for the script that starts it.
-use interval::UnitRead;
+use component::UnitRead;
 use names::Named;
 use names::Reader;
 ghost use Prim.Native.Nat.{_≤_};

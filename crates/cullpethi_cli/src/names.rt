@@ -1,6 +1,6 @@
 // What the words of the command line name.
-use interval::IntervalUnit;
-use interval::UnitRead;
+use component::IntervalUnit;
+use component::UnitRead;
 
 pub enum Reader {
     StampNanos,

@@ -1,9 +1,9 @@
 // Intervals. `of` tells whether the name is one of their readers.
 use crate::show;
+use component::IntervalUnit;
 use interval::DayTimeRead;
 use interval::IntervalParseConfig;
 use interval::IntervalRead;
-use interval::IntervalUnit;
 
 pub fn of(name: &[u8], text: &[u8]) -> bool {
     if check::same(name, b"interval") {

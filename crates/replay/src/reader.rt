@@ -13,9 +13,9 @@ use column::times::Time32MillisecondType;
 use column::times::Time32SecondType;
 use column::times::Time64MicrosecondType;
 use column::times::Time64NanosecondType;
+use component::IntervalUnit;
+use component::UnitRead;
 use interval::IntervalParseConfig;
-use interval::IntervalUnit;
-use interval::UnitRead;
 ghost use Rattle.io.specs.Counts.{Counts};
 
 pub fn of(name: &[u8], text: &[u8], out: &mut [u8]) -> usize

@@ -1,9 +1,9 @@
 -- `cullpethi::cullpethi_parse_interval_month_day_nano_config` meets its contract: the outcome in the unit is told, or 255. Assumes nothing.
 use mathlib.Core.Path.{refl, sym, ap, _∙_}
 use mathlib.Core.Option.{Option}
+use Rattle.component.specs.Read.{unitRead}
+use Rattle.component.specs.declared.IntervalUnit.{IntervalUnit}
 use Rattle.interval.specs.Contribution.{counts}
-use Rattle.interval.specs.Read.{unitRead}
-use Rattle.interval.specs.declared.IntervalUnit.{IntervalUnit}
 use Rattle.cullpethi.specs.Cells.{inUnit}
 use Rattle.cullpethi.proofs.Numbering.{in-unit}
 use Rattle.cullpethi.proofs.Telling.{kept}
