@@ -122,8 +122,10 @@ fn page(all: &[Compared], kinds: &Kinds, out: &mut impl Write) -> std::io::Resul
     let differ: usize = kinds.values().map(Vec::len).sum();
     let read = all.iter().filter(|c| c.reads() == Reads::Both && c.ours == c.theirs).count();
     let n = |n: usize| grouped(n as i128);
-    writeln!(out, "{} texts: {} answered alike ({} read, {} refused), {} not.", n(all.len()), n(all.len() - differ), n(read), n(all.len() - differ - read), n(differ))?;
-    let same: Vec<String> = SAME.iter().filter_map(|s| all.iter().find(|c| c.text == *s)).map(|c| format!("{} ({})", c.shown(), c.here())).collect();
+    let alike = all.len() - differ;
+    writeln!(out, "{} texts: {} answered alike ({} read, {} refused), {} not.", n(all.len()), n(alike), n(read), n(alike - read), n(differ))?;
+    let examples = SAME.iter().filter_map(|s| all.iter().find(|c| c.text == *s));
+    let same: Vec<String> = examples.map(|c| format!("{} ({})", c.shown(), c.here())).collect();
     writeln!(out, "Alike, for example: {}.\n", same.join(", "))?;
     table("Both read the text, as different intervals:", Reads::Both, kinds, out)?;
     table("Only this library reads it:", Reads::Here, kinds, out)?;

@@ -194,7 +194,8 @@ impl Component {
         match unit {
             0..=2 => {
                 let scale = [100, 10, 1][unit as usize];
-                let part = if has(Rule::Years) { (self.float() * scale as f64 * 12.0).round_ties_even() as i128 } else { self.cut(scale * 12) };
+                let rounded = (self.float() * scale as f64 * 12.0).round_ties_even() as i128;
+                let part = if has(Rule::Years) { rounded } else { self.cut(scale * 12) };
                 if has(Rule::YearsApart) {
                     (of.years, of.months) = (whole * scale, part);
                 } else {

@@ -100,7 +100,8 @@ fn has(text: &str, shape: Shape) -> bool {
             parts.iter().enumerate().any(|(i, r)| letters(r) && (i == 0 || letters(parts[i - 1])))
         }
         Shape::NoUnit => {
-            let fields: Vec<&str> = text.split(|c: char| c.is_ascii() && is_white(c as u8)).map(|f| f.trim_start_matches(['+', '-'])).collect();
+            let white = |c: char| c.is_ascii() && is_white(c as u8);
+            let fields: Vec<&str> = text.split(white).map(|f| f.trim_start_matches(['+', '-'])).collect();
             let alone = |f: &str| amount(f) && f.bytes().all(|b| digit(b) || b == b'.');
             let two_points = runs(text).iter().any(|r| r.matches('.').count() > 1);
             let plus = runs(text).windows(3).any(|w| amount(w[0]) && w[1] == "+" && amount(w[2]));

@@ -7,14 +7,15 @@ const SEED: u64 = 20261116;
 const GENERATED: usize = 200_000;
 
 const AMOUNTS: &[&str] = &[
-    "0", "1", "2", "-1", "+1", "- 1", "--1", ".5", "-.5", "0.5", "1.5", "-1.5", "-0.5", "1.", "007", "0.13", "0.04", "0.375", "0.1234567", "0.0000001",
-    "0.0000005", "0.000000001", "1.000000000000000", "1.0000000000000000", "0.999999999999999", "2147483647", "-2147483648", "2147483648",
-    "178956971", "306783378", "2562048", "9223372036854", "9223372036855", "9223372036854775807", "-9223372036854775808", "9223372036854775808", "1e3", "",
+    "0", "1", "2", "-1", "+1", "- 1", "--1", ".5", "-.5", "0.5", "1.5", "-1.5", "-0.5", "1.", "007", "0.13", "0.04", "0.375",
+    "0.1234567", "0.0000001", "0.0000005", "0.000000001", "1.000000000000000", "1.0000000000000000", "0.999999999999999", "2147483647",
+    "-2147483648", "2147483648", "178956971", "306783378", "2562048", "9223372036854", "9223372036855", "9223372036854775807",
+    "-9223372036854775808", "9223372036854775808", "1e3", "",
 ];
 /// PostgreSQL's words that are no units here, and words of neither.
 const WORDS: &[&str] = &[
-    "mil", "mils", "millennium", "millennia", "millenniums", "microsecon", "millisecondss", "microsecondx", "quarter", "ns", "fortnight", "Day", "HOURS",
-    "wee\u{212A}", "wee\u{212A}s",
+    "mil", "mils", "millennium", "millennia", "millenniums", "microsecon", "millisecondss", "microsecondx", "quarter", "ns",
+    "fortnight", "Day", "HOURS", "wee\u{212A}", "wee\u{212A}s",
 ];
 const SHORT: &[&str] = &["c", "dec", "y", "mon", "w", "d", "h", "m", "s", "ms", "us", "nanosecond", "millennium", ""];
 const PAIRED: &[&str] = &["1", "-2", "0.5", ".25", "2147483647", "-306783378", "9223372036854"];
@@ -25,11 +26,12 @@ const WAYS: &[(&str, &str, &str)] = &[
 ];
 /// Forms of section 8.5.4, and texts at the ends of the ranges.
 const FORMS: &[&str] = &[
-    "1-2", "-1-2", "1-2 3", "3 4:05:06", "4:05", "4:05:06.789", "-4:05:06", "1 day 4:05:06", "1-2 3 4:05:06", "P1Y2M3DT4H5M6S", "P1.5M", "PT36H",
-    "P0001-02-03T04:05:06", "P00010203T040506", "P1W", "1 year 2 months 3 days 4 hours 5 minutes 6 seconds ago", "1 day, 2 hours", "day 1",
-    "days 1 hour", "1 2 days", "1 day 2 days", "1 day 1 d", "1 month 2", "1 second 2", "1.5 seconds 1 ms", "1 second 1 ms", "1d2h", "1day2hours",
-    "1 week -7 days", "306783378 weeks -2 days 0.1 months", "306783378 weeks 0.1 months -2 days", "-2 days 0.1 months 306783378 weeks",
-    "178956971 years -12 months", "1 century -1200 months", "-.5 days", "1.0000000000000000 days", "1 wee\u{212A}", "", " ", "ago", "1 ago", "@",
+    "1-2", "-1-2", "1-2 3", "3 4:05:06", "4:05", "4:05:06.789", "-4:05:06", "1 day 4:05:06", "1-2 3 4:05:06", "P1Y2M3DT4H5M6S",
+    "P1.5M", "PT36H", "P0001-02-03T04:05:06", "P00010203T040506", "P1W", "1 year 2 months 3 days 4 hours 5 minutes 6 seconds ago",
+    "1 day, 2 hours", "day 1", "days 1 hour", "1 2 days", "1 day 2 days", "1 day 1 d", "1 month 2", "1 second 2", "1.5 seconds 1 ms",
+    "1 second 1 ms", "1d2h", "1day2hours", "1 week -7 days", "306783378 weeks -2 days 0.1 months",
+    "306783378 weeks 0.1 months -2 days", "-2 days 0.1 months 306783378 weeks", "178956971 years -12 months", "1 century -1200 months",
+    "-.5 days", "1.0000000000000000 days", "1 wee\u{212A}", "", " ", "ago", "1 ago", "@",
 ];
 
 fn systematic() -> Vec<String> {

@@ -21,6 +21,17 @@ fn trimmed(text: &str) -> String {
     runs(text).into_iter().map(|r| if r.bytes().all(is_white) { " " } else { r }).collect::<String>().trim_matches(' ').to_string()
 }
 
+/// Without white space behind a minus.
+fn behind_minus(text: &str, white: impl Fn(char) -> bool) -> String {
+    let mut out = String::new();
+    text.chars().for_each(|c| {
+        if !(white(c) && out.ends_with('-')) {
+            out.push(c);
+        }
+    });
+    out
+}
+
 fn long_unit(run: &str) -> &str {
     match run.get(..10).map(str::to_ascii_lowercase).as_deref() {
         Some("millisecon") => "milliseconds",
@@ -49,7 +60,7 @@ fn without(text: &str, shape: Shape) -> Option<String> {
         Shape::Punctuation => trimmed(&text.replace(|c: char| c.is_ascii_punctuation() && !"+-.:".contains(c), " ")),
         Shape::Blanks => trimmed(text),
         Shape::Plus => trimmed(&text.replace('+', " ")),
-        Shape::SignAlone => text.chars().fold(String::new(), |out, c| if white(c) && out.ends_with('-') { out } else { format!("{out}{c}") }),
+        Shape::SignAlone => behind_minus(text, white),
         Shape::PointAlone => between(&format!("{text} "), "0", |a, b| a == '.' && !b.is_ascii_digit()).trim_end_matches(white).to_string(),
         Shape::Glued => between(text, " ", |a, b| a.is_ascii_alphabetic() && (b.is_ascii_digit() || "+-.".contains(b))),
         Shape::TenLetters => runs(text).into_iter().map(long_unit).collect(),
