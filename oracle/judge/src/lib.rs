@@ -15,6 +15,7 @@ pub enum Answer {
 pub mod generate;
 pub mod library;
 pub mod lines;
+pub mod postgres;
 
 pub use Answer::*;
 
