@@ -70,7 +70,7 @@ ending-first none-given = (refl, refl, refl)
 ending-first capital-z = (refl, refl, refl)
 ending-first small-z = (refl, refl, refl)
 
-is-ending : {e : List ℕ} → Ending e → isEnding e ≡ true
+pub is-ending : {e : List ℕ} → Ending e → isEnding e ≡ true
 is-ending none-given = refl
 is-ending capital-z = refl
 is-ending small-z = refl
@@ -123,12 +123,12 @@ time-read (basic h m s p q u) {e} n =
 
 -- ---- a stamp of the grammar is accepted
 
-is-separator : {s : ℕ} → Separator s → isSeparator s ≡ true
+pub is-separator : {s : ℕ} → Separator s → isSeparator s ≡ true
 is-separator capital = refl
 is-separator small = refl
 is-separator space = refl
 
-day-read : {t : List ℕ} {d : Ymd} → FullDate t d → (r : List ℕ) (z : ℤ) → civil (pos (d .year)) (d .month) (d .day) ≡ some z → dayOf (t ++ r) ≡ some z
+pub day-read : {t : List ℕ} {d : Ymd} → FullDate t d → (r : List ℕ) (z : ℤ) → civil (pos (d .year)) (d .month) (d .day) ≡ some z → dayOf (t ++ r) ≡ some z
 unfolding dayOf
 day-read f r z e = let x = date-read f r in rw (x .shape, x .year, x .month, x .day) e
 
@@ -150,19 +150,19 @@ clash e = let x : _≡_ {A = ℕ} 0 1 = cc in absurd (omega arith)
 pub none-some {ℓ} : {X : Type ℓ} {A : Type 0} {a : A} → none ≡ some a → X
 none-some e = let x : _≡_ {A = ℕ} 0 1 = cc in absurd (omega arith)
 
-record DateIs (t : List ℕ) (z : ℤ) : Type 0 where
-  date : Ymd
-  bytes : List ℕ
-  full : FullDate bytes date
-  text : t ≡ bytes ++ drop 10 t
-  size : length bytes ≡ 10
-  named : civil (pos (date .year)) (date .month) (date .day) ≡ some z
+pub record DateIs (t : List ℕ) (z : ℤ) : Type 0 where
+  pub date : Ymd
+  pub bytes : List ℕ
+  pub full : FullDate bytes date
+  pub text : t ≡ bytes ++ drop 10 t
+  pub size : length bytes ≡ 10
+  pub named : civil (pos (date .year)) (date .month) (date .day) ≡ some z
 
 -- both parts of a test
 pub both : (x y : Bool) → x && y ≡ true → (x ≡ true) × (y ≡ true)
 both x y e = (and-left x y e, and-right x y e)
 
-date-sound : (t : List ℕ) (z : ℤ) → isDate t ≡ true → civil (pos (twoAt t 0 * 100 + twoAt t 2)) (twoAt t 5) (twoAt t 8) ≡ some z → DateIs t z
+pub date-sound : (t : List ℕ) (z : ℤ) → isDate t ≡ true → civil (pos (twoAt t 0 * 100 + twoAt t 2)) (twoAt t 5) (twoAt t 8) ≡ some z → DateIs t z
 date-sound t z e n =
     let p = both (twoDigits t 0) (twoDigits t 2 && (eqb (getD t 4 0) 0x2D && (twoDigits t 5 && (eqb (getD t 7 0) 0x2D && twoDigits t 8)))) e in
     let q = both (twoDigits t 2) (eqb (getD t 4 0) 0x2D && (twoDigits t 5 && (eqb (getD t 7 0) 0x2D && twoDigits t 8))) (p .1) in
@@ -287,13 +287,13 @@ time-sound t x e =
     (basic-sound (getD t 0 0) (getD t 1 0) (getD t 2 0) (getD t 3 0) (getD t 4 0) (getD t 5 0) (h .0) (h .1) (m .0) (m .1) (n .0) (n .1) (drop 6 t) x (rw (p, q) at e)))
     (λ q. none-some (rw (p, q) at e)))
 
-ending-sound : (e : List ℕ) → isEnding e ≡ true → Ending e
+pub ending-sound : (e : List ℕ) → isEnding e ≡ true → Ending e
 ending-sound [] p = none-given
 ending-sound (b ∷ []) p =
     ⊎-elim (λ q. rw (eqb-true b 0x5A q) capital-z) (λ q. rw (eqb-true b 0x7A q) small-z) (or-cases (eqb b 0x5A) (eqb b 0x7A) p)
 ending-sound (b ∷ c ∷ e) p = absurd (false≢true p)
 
-separator-sound : (b : ℕ) → isSeparator b ≡ true → Separator b
+pub separator-sound : (b : ℕ) → isSeparator b ≡ true → Separator b
 separator-sound b p =
     ⊎-elim (λ q. rw (eqb-true b 0x54 q) capital)
     (λ q. ⊎-elim (λ r. rw (eqb-true b 0x74 r) small) (λ r. rw (eqb-true b 0x20 r) space) (or-cases (eqb b 0x74) (eqb b 0x20) q))

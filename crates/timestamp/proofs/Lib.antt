@@ -11,3 +11,4 @@ pub mod Fractions
 pub mod Endings
 pub mod Outcomes
 pub mod Bounds
+pub mod Refusals

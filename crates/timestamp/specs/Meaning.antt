@@ -1,19 +1,20 @@
 -- What a stamp names, as relations: a text of the grammar whose date is a day of the calendar and whose time is in range names a moment,
--- and is read as the nanoseconds of its instant where they fit 64 signed bits. `Rattle.timestamp.proofs.Agreement` joins this to the
--- computation. Assumes nothing.
+-- and is read as the nanoseconds of its instant where they fit 64 signed bits; and why any other text is refused.
+-- `Rattle.timestamp.proofs.Agreement` and `Refusals` join this to the computation. Assumes nothing.
 use mathlib.Core.Path.{_≡_}
-use mathlib.Core.Bool.{true}
+use mathlib.Core.Bool.{true, false}
 use mathlib.Core.Logic.{_⊎_}
 use mathlib.Core.List.{List, [], _∷_, _++_}
-use mathlib.Core.Option.{some}
+use mathlib.Core.Option.{none, some}
 use Prim.Native.Nat.{ℕ}
 use lib.IntN.{ℤ, pos}
 use Rattle.calendar.specs.Calendar.{civil}
 use Rattle.number.specs.Widths.{inSigned}
 use Rattle.text.specs.Digits.{value}
+use Rattle.text.specs.Utf8.{Utf8}
 use Rattle.timestamp.specs.Clock.{Clock, clock, inRange, sinceMidnight}
-use Rattle.timestamp.specs.Grammar.{Figures, Ymd, FullDate, Secfrac, Stamp}
-use Rattle.timestamp.specs.Answer.{Moment, moment, instant}
+use Rattle.timestamp.specs.Grammar.{Figures, Ymd, FullDate, Secfrac, Separator, Ending, Stamp}
+use Rattle.timestamp.specs.Answer.{Timed, timeOf, Moment, moment, instant}
 
 -- RFC 3339, section 5.6, its own date-time in UTC: full-date "T" partial-time "Z", the letters in either case, with colons
 pub data Rfc3339 : List ℕ → Ymd → Clock → Type 0 where
@@ -29,3 +30,18 @@ pub data Names : List ℕ → Moment → Type 0 where
 -- a text and the nanoseconds that it is read as
 pub data Reads : List ℕ → ℤ → Type 0 where
   reads : {t : List ℕ} (m : Moment) → Names t m → inSigned 63 (instant m) ≡ true → Reads t (instant m)
+
+-- the bytes of a date that the calendar has, and its day
+pub data Dated : List ℕ → ℤ → Type 0 where
+  dated : {a : List ℕ} {d : Ymd} (z : ℤ) → FullDate a d → civil (pos (d .year)) (d .month) (d .day) ≡ some z → Dated a z
+
+-- a text and the number of its refusal, the first of document 01's list that holds. Where a time ends, and so which of 4 and 5 holds, is
+-- the computation's to say, as it is the Rust's mask there: the bytes behind the separator begin with no time, or something follows it
+pub data Refuses : List ℕ → ℕ → Type 0 where
+  not-utf8 : {t : List ℕ} → (Utf8 t → ⊥) → Refuses t 1
+  no-date : {t : List ℕ} → Utf8 t → ((a r : List ℕ) (z : ℤ) → t ≡ a ++ r → Dated a z → ⊥) → Refuses t 2
+  no-separator : (a r : List ℕ) (b : ℕ) (z : ℤ) → Utf8 (a ++ (b ∷ r)) → Dated a z → (Separator b → ⊥) → Refuses (a ++ (b ∷ r)) 3
+  no-time : (a r : List ℕ) (s : ℕ) (z : ℤ) → Utf8 (a ++ (s ∷ r)) → Dated a z → Separator s → timeOf r ≡ none → Refuses (a ++ (s ∷ r)) 4
+  more-after : (a r : List ℕ) (s : ℕ) (z : ℤ) (x : Timed) → Utf8 (a ++ (s ∷ r)) → Dated a z → Separator s → timeOf r ≡ some x
+      → (Ending (x .tail) → ⊥) → Refuses (a ++ (s ∷ r)) 5
+  out-of-range : {t : List ℕ} (m : Moment) → Names t m → inSigned 63 (instant m) ≡ false → Refuses t 6
