@@ -4,3 +4,4 @@ pub mod Bounds
 pub mod Hyphens
 pub mod Shapes
 pub mod Outcomes
+pub mod Refusals

@@ -1,5 +1,6 @@
 -- The texts of dates, as relations (document 01, "Dates and stamps"). Of the unsigned forms RFC 3339 has yyyy-mm-dd alone and ISO 8601
--- yyyymmdd too; the signed form is ISO 8601's expanded representation, with the month and the day as Rust's integers. Assumes nothing.
+-- yyyymmdd too; the signed form is ISO 8601's expanded representation, with the month and the day as Rust's integers. And why any other
+-- text is refused. Assumes nothing.
 use mathlib.Core.Path.{_≡_}
 use mathlib.Core.Bool.{Bool, true, false, not, _&&_}
 use mathlib.Core.List.{List, [], _∷_, _++_}
@@ -11,10 +12,10 @@ use Rattle.calendar.specs.Calendar.{civil}
 use Rattle.number.specs.Widths.{inSigned, inUnsigned}
 use Rattle.number.specs.Decimal.{Numeral}
 use Rattle.text.specs.Digits.{isDigit, digits, value}
-use Rattle.text.specs.Utf8.{utf8}
+use Rattle.text.specs.Utf8.{Utf8, utf8}
 use Rattle.timestamp.specs.Grammar.{Figures}
 use Rattle.timestamp.specs.Answer.{Moment}
-use Rattle.timestamp.specs.Meaning.{Names}
+use Rattle.timestamp.specs.Meaning.{Names, Refuses as StampRefuses}
 
 -- one or two digits
 pub data OneOrTwo : List ℕ → Type 0 where
@@ -51,3 +52,15 @@ pub data NamesDay : List ℕ → ℤ → Type 0 where
 -- a text and the day that Date32 holds
 pub data Reads : List ℕ → ℤ → Type 0 where
   reads : {t : List ℕ} {z : ℤ} → NamesDay t z → inSigned 31 z ≡ true → Reads t z
+
+-- a text that is read as a date: it begins with a sign, or has at most 10 bytes; any other is read as a stamp
+pub data DateForm : List ℕ → Type 0 where
+  with-sign : (s : ℕ) (t : List ℕ) → Sign s → DateForm (s ∷ t)
+  within-ten : {t : List ℕ} → length t ≤ 10 → DateForm t
+
+-- a text and the number of its refusal, the first of document 01's list that holds; a stamp's own range, 6, is no reason here
+pub data Refuses : List ℕ → ℕ → Type 0 where
+  not-utf8 : {t : List ℕ} → (Utf8 t → ⊥) → Refuses t 1
+  no-date : {t : List ℕ} → Utf8 t → DateForm t → ((z : ℤ) → NamesDay t z → ⊥) → Refuses t 2
+  as-stamp : {t : List ℕ} {n : ℕ} → (DateForm t → ⊥) → StampRefuses t n → n < 6 → Refuses t n
+  out-of-range : {t : List ℕ} (z : ℤ) → NamesDay t z → inSigned 31 z ≡ false → Refuses t 6

@@ -22,18 +22,18 @@ use Rattle.timestamp.specs.Meaning.{Names, Dated, dated, Refuses, not-ut
 use Rattle.timestamp.proofs.Agreement.{agrees, clash, none-some, seam, date-size, day-read, DateIs, date-sound, is-separator, separator-sound, is-ending, ending-sound}
 
 -- a test that fails where its relation does
-fails : {P : Type 0} (b : Bool) → (b ≡ true → P) → (P → ⊥) → b ≡ false
+pub fails : {P : Type 0} (b : Bool) → (b ≡ true → P) → (P → ⊥) → b ≡ false
 fails true f n = absurd (n (f refl))
 fails false f n = refl
 
 -- and the other way
-holds-not : {P : Type 0} {b : Bool} → b ≡ false → (P → b ≡ true) → P → ⊥
+pub holds-not : {P : Type 0} {b : Bool} → b ≡ false → (P → b ≡ true) → P → ⊥
 holds-not e f p = false≢true (sym e ∙ f p)
 
 is-utf8 : {t : List ℕ} → Utf8 t → utf8 t ≡ true
 is-utf8 {t} u = utf.agrees t .0 u
 
-same : {A : Type 0} {m n : ℕ} → _≡_ {A = Outcome A} (refused m) (refused n) → m ≡ n
+pub same : {A : Type 0} {m n : ℕ} → _≡_ {A = Outcome A} (refused m) (refused n) → m ≡ n
 same e = cc
 
 -- ---- a refusal of the relation is the computation's
