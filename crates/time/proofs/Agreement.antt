@@ -12,16 +12,18 @@ use lib.ListN.{length, getD, take, drop, length-append, take-append-drop, drop-o
 use lib.Seq.{take-at, drop-cons, getD-append-add}
 use lib.IntN.{ℤ, pos}
 use borrow.Author.Tests.{eqb-true, le-leb, leb-true, le-ltb, ltb-false}
-use Rattle.refusal.specs.Outcome.{accepted}
+use Rattle.refusal.specs.Outcome.{Outcome, accepted, refused}
 use Rattle.text.specs.Digits.{isDigit, worth, digits, value, twoDigits}
 use Rattle.text.specs.Utf8.{utf8, ascii}
 use Rattle.text.proofs.Bools.{and-left, and-right, and-false, or-cases, by-test}
+use Rattle.text.proofs.Utf8Agrees as utf
 use Rattle.text.proofs.Ascii.{ascii-nil, ascii-cons, ascii-append, ascii-utf8}
 use Rattle.timestamp.specs.Clock.{Clock, clock, inRange, nanosFrom, nanosOf, sinceMidnight}
 use Rattle.timestamp.specs.Grammar.{Figures, Secfrac, no-fraction, fraction}
 use Rattle.timestamp.proofs.Shapes.{all-digits, digits-head, by-one, by-two, one-figure, two-figures, one-value, two-value, not-sign, size-of, last-of, last-figure, seconds-end}
 use Rattle.timestamp.proofs.Agreement.{clash, none-some, both, ascii-figures, ascii-secfrac}
-use Rattle.time.specs.Grammar.{Hour, one, two, Written, minutes, seconds, Letter, upper, lower, TimeOfDay, full, Reads, reads}
+use Rattle.timestamp.proofs.Refusals.{same, fails, holds-not}
+use Rattle.time.specs.Grammar.{Hour, one, two, Written, minutes, seconds, Letter, upper, lower, TimeOfDay, full, Reads, reads, Refuses, not-utf8, no-time}
 use Rattle.time.specs.Grammar as Grammar
 use Rattle.time.specs.declared.Half.{Half}
 use Rattle.time.specs.declared.Half.the-variants.{Am as am, Pm as pm, Neither as neither}
@@ -361,3 +363,24 @@ agrees t z = (into, λ e. by-test (utf8 t) (λ u. back (timeOfDay t) refl (rw u 
 -- at most one
 pub one-reading : {t : List ℕ} {y z : ℤ} → Reads t y → Reads t z → y ≡ z
 one-reading {t} {y} {z} p q = let a = agrees t y .0 p in let b = agrees t z .0 q in cc
+
+-- each refused text has the one number that the computation gives
+pub refusals : (t : List ℕ) (n : ℕ) → Refuses t n ↔ (timeNanos t ≡ refused n)
+refusals t n = (into, λ e. by-test (utf8 t) (λ u. back (timeOfDay t) refl u (rw u at e)) (λ u. first u (rw u at e)))
+  where
+    by : (o : Option ℕ) → timeOfDay t ≡ o → utf8 t ≡ true → ((z : ℤ) → Reads t z → ⊥) → timeNanos t ≡ refused 7
+    by none p u h = rw (u, p)
+    by (some k) p u h = absurd (h (pos k) (agrees t (pos k) .1 (rw (u, p))))
+
+    into : {n : ℕ} → Refuses t n → timeNanos t ≡ refused n
+    into (not-utf8 h) = rw (fails (utf8 t) (utf.agrees t .1) h)
+    into (no-time u h) = by (timeOfDay t) refl (utf.agrees t .0 u) h
+
+    first : utf8 t ≡ false → _≡_ {A = Outcome ℤ} (refused 1) (refused n) → Refuses t n
+    first u e = rw (← same e) (not-utf8 (holds-not u (utf.agrees t .0)))
+
+    back : (o : Option ℕ) → timeOfDay t ≡ o → utf8 t ≡ true → onTime o ≡ refused n → Refuses t n
+    back (some k) p u e = clash (sym e)
+    back none p u e =
+        let q : timeNanos t ≡ refused 7 = rw (u, p) in
+        rw (← same e) (no-time (utf.agrees t .1 u) (λ z r. clash (sym q ∙ agrees t z .0 r)))

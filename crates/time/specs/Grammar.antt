@@ -1,12 +1,13 @@
 -- The texts of times of day, as relations (document 01, "Time of day"; ISO 8601's hh:mm and hh:mm:ss, and the twelve-hour clock): one or
 -- two hour digits, a colon, two minute digits, then perhaps a colon and two second digits, and only after these perhaps a point and one or
--- more digits; then perhaps a space and AM or PM in any case. Assumes nothing.
+-- more digits; then perhaps a space and AM or PM in any case. And why any other text is refused. Assumes nothing.
 use mathlib.Core.Path.{_≡_}
 use mathlib.Core.Bool.{true}
 use mathlib.Core.List.{List, [], _∷_, _++_}
 use Prim.Native.Nat.{ℕ, _+_, _%_, _≤_}
 use lib.IntN.{ℤ, pos}
 use Rattle.text.specs.Digits.{value}
+use Rattle.text.specs.Utf8.{Utf8}
 use Rattle.timestamp.specs.Clock.{Clock, clock, inRange, sinceMidnight}
 use Rattle.timestamp.specs.Grammar.{Figures, Secfrac}
 
@@ -37,3 +38,8 @@ pub data TimeOfDay : List ℕ → Clock → Type 0 where
 -- a text and the nanoseconds since midnight that it is read as
 pub data Reads : List ℕ → ℤ → Type 0 where
   reads : {t : List ℕ} {c : Clock} → TimeOfDay t c → inRange (c .hour) (c .minute) (c .second) ≡ true → Reads t (pos (sinceMidnight c))
+
+-- a text and the number of its refusal
+pub data Refuses : List ℕ → ℕ → Type 0 where
+  not-utf8 : {t : List ℕ} → (Utf8 t → ⊥) → Refuses t 1
+  no-time : {t : List ℕ} → Utf8 t → ((z : ℤ) → Reads t z → ⊥) → Refuses t 7
