@@ -15,19 +15,13 @@ use Rattle.text.specs.Utf8.{Utf8}
 use Rattle.text.proofs.Bools.{and-left, and-right, by-test, within-yes, within-is}
 use Rattle.text.proofs.Runs.{run-all}
 use Rattle.number.specs.Decimal.{Digits, one-or-more}
+use Rattle.number.proofs.Agreement.{all-digits, some-digits}
 use Rattle.component.specs.Grammar.{Sign, no-sign, minus, wholeFits, Whole, Fraction, Amount, whole, decimal, fraction}
 use Rattle.component.specs.Division.{negative, signLen, pointLen, digitsLen, amountLen}
 use Rattle.component.specs.Amount.{valued, fracOf, unsignedOf, amountOf}
 use Rattle.component.proofs.Words.{ascii-utf8}
 
 -- ---- digits
-
-all-digits : {d : List ℕ} → Digits d → digits d ≡ true
-unfolding digits
-all-digits (one-or-more p q) = rw (p, q)
-
-pub some-digits : {d : List ℕ} → Digits d → 0 < length d
-some-digits (one-or-more p q) = omega arith
 
 one-of : (d : List ℕ) → digits d ≡ true → 0 < length d → Digits d
 unfolding digits

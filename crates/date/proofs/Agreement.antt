@@ -15,7 +15,7 @@ use lib.IntN.{ℤ, pos, negsuc}
 use borrow.Author.Tests.{eqb-true, le-leb, leb-true, lt-leb, leb-false, lt-ltb, ltb-true, not-true}
 use Rattle.calendar.specs.Calendar.{civil}
 use Rattle.number.specs.Widths.{inSigned, inUnsigned, inType, keep}
-use Rattle.number.specs.Decimal.{Digits, one-or-more, Numeral, plain, plus, minus, numeral, integer}
+use Rattle.number.specs.Decimal.{one-or-more, Numeral, plain, plus, minus, numeral, integer}
 use Rattle.number.proofs.Agreement as Numerals
 use Rattle.refusal.specs.Outcome.{Outcome, accepted, refused, andThen}
 use Rattle.text.specs.Digits.{isDigit, worth, digits, value, twoDigits, twoAt}
@@ -23,7 +23,7 @@ use Rattle.text.specs.Utf8.{utf8}
 use Rattle.text.proofs.Bools.{and-left, and-right, and-false, or-cases, by-test}
 use Rattle.timestamp.specs.Grammar.{Figures}
 use Rattle.timestamp.specs.Answer.{isDate, dayOf, Moment, plainMoment}
-use Rattle.timestamp.proofs.Shapes.{all-digits, by-one, by-two, by-four, one-figure, two-figures, four-figures, one-value, two-value, four-value, not-sign, size-of, sign-inside, seven, eight}
+use Rattle.timestamp.proofs.Shapes.{by-one, by-two, by-four, one-figure, two-figures, four-figures, one-value, two-value, four-value, not-sign, size-of, sign-inside, seven, eight}
 use Rattle.timestamp.proofs.Agreement as Stamps
 use Rattle.timestamp.proofs.Agreement.{clash, none-some, both}
 use Rattle.date.specs.Grammar.{OneOrTwo, one, two, noDigits, Sign, DateText, compact, hyphens, signed, NamesDay, of-date, of-stamp, Reads, reads}
@@ -38,13 +38,10 @@ to-hyphen [] r e = refl
 to-hyphen (b ∷ y) r e =
     rw (not-sign b 0x2D (and-left (isDigit b) (digits y) e) (inl (omega arith))) (ap suc (to-hyphen y r (and-right (isDigit b) (digits y) e)))
 
-figures-of : {t : List ℕ} → Digits t → digits t ≡ true
-figures-of (one-or-more {b} {t} p q) = all-digits b t p q
-
 number-hyphen : {m : List ℕ} {z : ℤ} → Numeral false m z → (r : List ℕ) → toHyphen (m ++ (0x2D ∷ r)) ≡ length m
 unfolding toHyphen
-number-hyphen {m} (plain d) r = to-hyphen m r (figures-of d)
-number-hyphen (plus {t} d) r = ap suc (to-hyphen t r (figures-of d))
+number-hyphen {m} (plain d) r = to-hyphen m r (Numerals.all-digits d)
+number-hyphen (plus {t} d) r = ap suc (to-hyphen t r (Numerals.all-digits d))
 number-hyphen (minus e d) r = absurd (false≢true e)
 
 integer-of : (sign : Bool) (bits : ℕ) {t : List ℕ} {z : ℤ} → Numeral sign t z → inType sign bits z ≡ true → integer sign bits t ≡ some z
@@ -205,8 +202,8 @@ sign-of b e = ⊎-elim (λ p. rw (eqb-true b 0x2B p) Grammar.plus) (λ p. rw (eq
 year-digits : {t : List ℕ} {z : ℤ} → Numeral true t z → (s : ℕ) (y : List ℕ) → t ≡ s ∷ y → isSign s ≡ true → digits y ≡ true
 year-digits (plain (one-or-more {b} {t} p q)) s y e g =
     let w : b ≡ s = cc in absurd (false≢true (sym (first-digit b p) ∙ ap isSign w ∙ g))
-year-digits (plus d) s y e g = let w = figures-of d in cc
-year-digits (minus r d) s y e g = let w = figures-of d in cc
+year-digits (plus d) s y e g = let w = Numerals.all-digits d in cc
+year-digits (minus r d) s y e g = let w = Numerals.all-digits d in cc
 
 record DateIs (t : List ℕ) (z : ℤ) : Type 0 where
   year : ℤ

@@ -9,7 +9,8 @@ use lib.ListN.{length, length-append}
 use lib.IntN.{ℤ, pos}
 use borrow.Author.Tests.{eqb-true, eqb-false}
 use Rattle.calendar.proofs.Bounds.{Within, civil-most}
-use Rattle.number.specs.Decimal.{Digits, one-or-more, Numeral, plain, plus, minus}
+use Rattle.number.specs.Decimal.{one-or-more, Numeral, plain, plus, minus}
+use Rattle.number.proofs.Agreement.{some-digits}
 use Rattle.number.proofs.Zed.{P, N, P-neg, N-neg}
 use Rattle.refusal.specs.Outcome.{accepted}
 use Rattle.text.specs.Digits.{value}
@@ -20,11 +21,8 @@ use Rattle.date.specs.Grammar.{DateText, compact, hyphens, signed, Names
 use Rattle.date.specs.Answer.{isSign, dayNamed}
 use Rattle.date.proofs.Agreement.{is-sign, first-digit, agrees}
 
-some-digits : {t : List ℕ} → Digits t → 1 ≤ length t
-some-digits (one-or-more p q) = omega arith
-
 number-size : {m : List ℕ} {z : ℤ} → Numeral false m z → 1 ≤ length m
-number-size (plain d) = some-digits d
+number-size (plain d) = omega (arith, some-digits d)
 number-size (plus d) = omega (arith, some-digits d)
 number-size (minus e d) = absurd (false≢true e)
 

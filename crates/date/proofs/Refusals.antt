@@ -1,6 +1,6 @@
 -- Why a date is refused: `Grammar.Refuses` has for each text the number that the computation gives, and no other. Assumes nothing.
 use mathlib.Core.Path.{_≡_, refl, sym, _∙_}
-use mathlib.Core.Bool.{Bool, true, false, false≢true}
+use mathlib.Core.Bool.{true, false, false≢true}
 use mathlib.Core.Logic.{_↔_, ⊎-elim}
 use mathlib.Core.List.{List, [], _∷_}
 use mathlib.Core.Option.{Option, none, some}
@@ -9,10 +9,10 @@ use native.Mathlib.Omega.{arith}
 use lib.Dec.{eqb, leb, lit<}
 use lib.ListN.{length, getD}
 use lib.IntN.{ℤ}
-use borrow.Author.Tests.{eqb-true, le-leb, leb-true, leb-false}
+use borrow.Author.Tests.{eqb-true, leb-true, leb-false}
 use Rattle.number.specs.Widths.{inSigned}
 use Rattle.refusal.specs.Outcome.{Outcome, accepted, refused, inUtf8, andThen}
-use Rattle.text.specs.Utf8.{Utf8, utf8}
+use Rattle.text.specs.Utf8.{utf8}
 use Rattle.text.proofs.Bools.{by-test, or-cases}
 use Rattle.text.proofs.Utf8Agrees as utf
 use Rattle.timestamp.specs.Answer.{Moment, instant, inNanos, datetime, stampNanos}
@@ -20,8 +20,8 @@ use Rattle.timestamp.specs.Meaning.{Refuses as StampRefuses, not-utf8 as st-not
 use Rattle.timestamp.proofs.Agreement as Stamps
 use Rattle.timestamp.proofs.Agreement.{clash}
 use Rattle.timestamp.proofs.Refusals.{same, fails, holds-not, refusals as stamp-refusals}
-use Rattle.date.specs.Grammar.{Sign, plus, minus, NamesDay, DateForm, with-sign, within-ten, Refuses, not-utf8, no-date, as-stamp, out-of-range}
-use Rattle.date.specs.Answer.{isSign, signedDay, shortDay, plainDay, onDay, dayNamed, inDays, dateDays}
+use Rattle.date.specs.Grammar.{plus, minus, NamesDay, DateForm, with-sign, within-ten, Refuses, not-utf8, no-date, as-stamp, out-of-range}
+use Rattle.date.specs.Answer.{isSign, signedDay, shortDay, onDay, dayNamed, inDays, dateDays}
 use Rattle.date.proofs.Outcomes.{signed-form, short-form, stamp-form, itsDay}
 use Rattle.date.proofs.Agreement.{agrees}
 

@@ -9,6 +9,7 @@ use Prim.Native.Nat.{ℕ, _-_, _^_, _<_}
 use native.Mathlib.Omega.{arith}
 use native.Mathlib.Nat.{lt-of-lt-of-le}
 use lib.Dec.{eqb}
+use lib.ListN.{length}
 use lib.IntN.{ℤ, pos, negsuc}
 use lib.Pow.{pow-pos, pow-mono}
 use lib.Signed.{leZ, mag}
@@ -23,6 +24,15 @@ use Rattle.number.specs.Widths.{inSigned, inType, keep, signed, int64}
 use Rattle.number.specs.Decimal.{Digits, one-or-more, Numeral, plain, plus, minus, unsigned, numeral, integer}
 use Rattle.number.proofs.Zed.{le-yes, of-mag}
 use Rattle.number.proofs.Ranges.{rd}
+
+-- ---- one digit or more
+
+pub all-digits : {d : List ℕ} → Digits d → digits d ≡ true
+unfolding digits
+all-digits (one-or-more p q) = rw (p, q)
+
+pub some-digits : {d : List ℕ} → Digits d → 0 < length d
+some-digits (one-or-more p q) = omega arith
 
 -- ---- the grammar and the computation
 

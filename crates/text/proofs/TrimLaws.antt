@@ -10,7 +10,7 @@ use lib.ListN.{length, getD, take, drop, drop-of-length-le}
 use lib.Seq.{drop-cons, take-suc, take-length}
 use borrow.Author.Tests.{ne-eqb}
 use Rattle.text.specs.Digits.{digitOf}
-use Rattle.text.specs.Trim.{blank, blanks, trimStart, before, trimEnd, trimmed}
+use Rattle.text.specs.Trim.{blank, trimStart, before, trimEnd, trimmed}
 use Rattle.text.proofs.Bools.{by-test}
 
 -- ---- from the start

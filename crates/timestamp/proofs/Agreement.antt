@@ -2,7 +2,7 @@
 -- it has at most one reading. Assumes nothing.
 use mathlib.Core.Path.{_≡_, refl, sym, ap, _∙_, subst}
 use mathlib.Core.Bool.{Bool, true, false, not, _&&_, _||_, false≢true}
-use mathlib.Core.Logic.{_⊎_, inr, ⊎-elim, _↔_}
+use mathlib.Core.Logic.{inr, ⊎-elim, _↔_}
 use mathlib.Core.List.{List, [], _∷_, _++_, append-nil}
 use mathlib.Core.Option.{Option, none, some}
 use Prim.Native.Nat.{ℕ, _+_, _*_, _<_}
@@ -15,7 +15,7 @@ use borrow.Author.Tests.{ne-eqb, eqb-true, eqb-false}
 use Rattle.calendar.specs.Calendar.{civil}
 use Rattle.number.specs.Widths.{inSigned}
 use Rattle.refusal.specs.Outcome.{Outcome, accepted, refused, andThen}
-use Rattle.text.specs.Digits.{isDigit, digits, value, run, twoDigits, twoAt}
+use Rattle.text.specs.Digits.{isDigit, value, run, twoDigits, twoAt}
 use Rattle.text.specs.Utf8.{utf8, ascii}
 use Rattle.text.proofs.Bools.{and-left, and-right, or-cases, by-test}
 use Rattle.text.proofs.Runs.{run-all, run-digits}

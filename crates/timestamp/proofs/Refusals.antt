@@ -2,7 +2,7 @@
 use mathlib.Core.Path.{_≡_, refl, sym, ap, _∙_, subst}
 use mathlib.Core.Bool.{Bool, true, false, false≢true}
 use mathlib.Core.Logic.{_↔_}
-use mathlib.Core.List.{List, [], _∷_, _++_}
+use mathlib.Core.List.{List, _∷_, _++_}
 use mathlib.Core.Option.{Option, none, some}
 use Prim.Native.Nat.{ℕ, _<_}
 use native.Mathlib.Omega.{arith}
@@ -16,9 +16,8 @@ use Rattle.refusal.specs.Outcome.{Outcome, accepted, refused, andThen}
 use Rattle.text.specs.Utf8.{Utf8, utf8}
 use Rattle.text.proofs.Bools.{by-test}
 use Rattle.text.proofs.Utf8Agrees as utf
-use Rattle.timestamp.specs.Grammar.{Separator, Ending}
-use Rattle.timestamp.specs.Answer.{isDate, dayOf, Timed, timeOf, isEnding, isSeparator, Moment, moment, instant, onTime, afterDate, onDate, plainMoment, datetime, inNanos, stampNanos}
-use Rattle.timestamp.specs.Meaning.{Names, Dated, dated, Refuses, not-utf8, no-date, no-separator, no-time, more-after, out-of-range}
+use Rattle.timestamp.specs.Answer.{isDate, dayOf, Timed, timeOf, isEnding, isSeparator, Moment, instant, onTime, afterDate, onDate, plainMoment, datetime, inNanos, stampNanos}
+use Rattle.timestamp.specs.Meaning.{Dated, dated, Refuses, not-utf8, no-date, no-separator, no-time, more-after, out-of-range}
 use Rattle.timestamp.proofs.Agreement.{agrees, clash, none-some, seam, date-size, day-read, DateIs, date-sound, is-separator, separator-sound, is-ending, ending-sound}
 
 -- a test that fails where its relation does

@@ -11,7 +11,7 @@ use lib.ListN.{length, getD, drop, length-append, List·getD-eq-default}
 use lib.IntN.{ℤ}
 use borrow.Author.Tests.{eqb-true, eq-eqb, le-leb, leb-true}
 use Rattle.refusal.specs.Outcome.{Outcome, accepted, refused, andThen}
-use Rattle.text.specs.Digits.{isDigit, digits, value, twoAt}
+use Rattle.text.specs.Digits.{isDigit, value, twoAt}
 use Rattle.text.proofs.Bools.{and-left, and-right, by-test, both-ways}
 use Rattle.timestamp.specs.Clock.{Clock, sinceMidnight}
 use Rattle.timestamp.specs.Grammar.{Figures, Ymd, FullDate, Secfrac, no-fraction, fraction, PartialTime, colons, basic, capital, Ending, none-given, capital-z, small-z, Stamp, date-alone, date-time}

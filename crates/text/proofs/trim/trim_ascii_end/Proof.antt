@@ -1,6 +1,6 @@
 -- `text::trim::trim_ascii_end` meets its contract. The loop's invariant: what is left is trimmed to what the whole is. Assumes nothing.
 use mathlib.Core.Path.{_≡_, sym, _∙_}
-use Prim.Native.Nat.{_-_, _≤_}
+use Prim.Native.Nat.{_≤_}
 use borrow.Author.Needs.{needs}
 use borrow.Author.Tests.{not-true, not-false}
 use native.Mathlib.Omega.{arith}

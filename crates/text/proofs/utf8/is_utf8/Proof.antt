@@ -1,5 +1,5 @@
 -- `text::utf8::is_utf8` meets its contract. Assumes nothing.
-use mathlib.Core.Path.{_≡_, sym, _∙_}
+use mathlib.Core.Path.{sym, _∙_}
 use borrow.Author.Needs.{needs}
 use Rattle.text.proofs.Ascii.{ascii-utf8}
 use Rattle.text.proofs.utf8.is_utf8.Statement.{statement}
