@@ -448,7 +448,7 @@ fn start_by_rule(y: u32) -> u32
     365 * y + (y + 3) / 4 - (y + 99) / 100 + (y + 399) / 400
 }
 
-// The same year without the table, which takes longer to build than the rest of a date takes to read.
+// The same year without the table, since that is built anew at each use.
 fn year_by_rule(y: u32) -> Year
     requires { ⌜ y < 400 ⌝ }
     ensures { λ r. ⌜ (r .start ≡ starts y) × (r .days ≡ yearDays (pos y)) ⌝ }

@@ -1,5 +1,6 @@
 // The command line: reads a text, or each line of standard input, by the reader that is named, and writes the counts or the refusal.
 // A program has no exit status of its own, so behind `--status` it is written to descriptor 3, for the script that starts it.
+use component::IntervalUnit;
 use component::UnitRead;
 use names::Named;
 use names::Reader;
@@ -62,7 +63,7 @@ fn reader_at(at: usize) -> Named {
 fn unit_at(at: usize) -> UnitRead {
     let mut space = io::buffer();
     let n = os::arg(at, &mut space);
-    names::unit_of(&space[..n])
+    IntervalUnit::from_str(&space[..n])
 }
 
 fn with_reader(at: usize, reader: Reader) -> u8

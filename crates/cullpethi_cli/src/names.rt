@@ -1,6 +1,5 @@
 // What the words of the command line name.
 use component::IntervalUnit;
-use component::UnitRead;
 
 pub enum Reader {
     StampNanos,
@@ -106,55 +105,4 @@ fn date_or_interval(name: &[u8]) -> Named {
         return Named::Is(Reader::IntervalDayTime);
     }
     Named::None
-}
-
-pub fn unit_of(name: &[u8]) -> UnitRead {
-    match unit_of_days(name) {
-        UnitRead::Unit(u) => UnitRead::Unit(u),
-        UnitRead::None => unit_of_time(name),
-    }
-}
-
-fn unit_of_days(name: &[u8]) -> UnitRead {
-    if check::same(name, b"century") {
-        return UnitRead::Unit(IntervalUnit::Century);
-    }
-    if check::same(name, b"decade") {
-        return UnitRead::Unit(IntervalUnit::Decade);
-    }
-    if check::same(name, b"year") {
-        return UnitRead::Unit(IntervalUnit::Year);
-    }
-    if check::same(name, b"month") {
-        return UnitRead::Unit(IntervalUnit::Month);
-    }
-    if check::same(name, b"week") {
-        return UnitRead::Unit(IntervalUnit::Week);
-    }
-    if check::same(name, b"day") {
-        return UnitRead::Unit(IntervalUnit::Day);
-    }
-    UnitRead::None
-}
-
-fn unit_of_time(name: &[u8]) -> UnitRead {
-    if check::same(name, b"hour") {
-        return UnitRead::Unit(IntervalUnit::Hour);
-    }
-    if check::same(name, b"minute") {
-        return UnitRead::Unit(IntervalUnit::Minute);
-    }
-    if check::same(name, b"second") {
-        return UnitRead::Unit(IntervalUnit::Second);
-    }
-    if check::same(name, b"millisecond") {
-        return UnitRead::Unit(IntervalUnit::Millisecond);
-    }
-    if check::same(name, b"microsecond") {
-        return UnitRead::Unit(IntervalUnit::Microsecond);
-    }
-    if check::same(name, b"nanosecond") {
-        return UnitRead::Unit(IntervalUnit::Nanosecond);
-    }
-    UnitRead::None
 }

@@ -13,13 +13,13 @@ use borrow.Author.Tests.{eqb-true, leb-true, leb-false}
 use Rattle.number.specs.Widths.{inSigned}
 use Rattle.refusal.specs.Outcome.{Outcome, accepted, refused, inUtf8, andThen}
 use Rattle.text.specs.Utf8.{utf8}
-use Rattle.text.proofs.Bools.{by-test, or-cases}
+use Rattle.text.proofs.Bools.{or-cases, by-test, fails, holds-not}
 use Rattle.text.proofs.Utf8Agrees as utf
 use Rattle.timestamp.specs.Answer.{Moment, instant, inNanos, datetime, stampNanos}
 use Rattle.timestamp.specs.Meaning.{Refuses as StampRefuses, not-utf8 as st-not-utf8, no-date as st-no-date, no-separator, no-time, more-after, out-of-range as st-out-of-range}
 use Rattle.timestamp.proofs.Agreement as Stamps
 use Rattle.timestamp.proofs.Agreement.{clash}
-use Rattle.timestamp.proofs.Refusals.{same, fails, holds-not, refusals as stamp-refusals}
+use Rattle.timestamp.proofs.Refusals.{same, refusals as stamp-refusals}
 use Rattle.date.specs.Grammar.{plus, minus, NamesDay, DateForm, with-sign, within-ten, Refuses, not-utf8, no-date, as-stamp, out-of-range}
 use Rattle.date.specs.Answer.{isSign, signedDay, shortDay, onDay, dayNamed, inDays, dateDays}
 use Rattle.date.proofs.Outcomes.{signed-form, short-form, stamp-form, itsDay}

@@ -1,6 +1,7 @@
 // Intervals. `of` tells whether the name is one of their readers.
 use crate::show;
 use component::IntervalUnit;
+use component::UnitRead;
 use interval::DayTimeRead;
 use interval::IntervalParseConfig;
 use interval::IntervalRead;
@@ -18,67 +19,24 @@ pub fn of(name: &[u8], text: &[u8]) -> bool {
         show_day_time(interval::parse_interval_day_time(text));
         return true;
     }
-    if with_default(name, text) {
-        return true;
+    match default_unit(name) {
+        UnitRead::Unit(u) => {
+            config(text, u);
+            true
+        }
+        UnitRead::None => false,
     }
-    with_time_default(name, text)
 }
 
-// The reader with a default unit, which its name tells.
-fn with_default(name: &[u8], text: &[u8]) -> bool {
-    if check::same(name, b"in_centuries") {
-        config(text, IntervalUnit::Century);
-        return true;
+// The default unit that a name such as `in_days` tells.
+fn default_unit(name: &[u8]) -> UnitRead {
+    if name.len() < 3 {
+        return UnitRead::None;
     }
-    if check::same(name, b"in_decades") {
-        config(text, IntervalUnit::Decade);
-        return true;
+    if (name[0] == b'i') & (name[1] == b'n') & (name[2] == b'_') {
+        return IntervalUnit::from_str(&name[3..]);
     }
-    if check::same(name, b"in_years") {
-        config(text, IntervalUnit::Year);
-        return true;
-    }
-    if check::same(name, b"in_months") {
-        config(text, IntervalUnit::Month);
-        return true;
-    }
-    if check::same(name, b"in_weeks") {
-        config(text, IntervalUnit::Week);
-        return true;
-    }
-    if check::same(name, b"in_days") {
-        config(text, IntervalUnit::Day);
-        return true;
-    }
-    false
-}
-
-fn with_time_default(name: &[u8], text: &[u8]) -> bool {
-    if check::same(name, b"in_hours") {
-        config(text, IntervalUnit::Hour);
-        return true;
-    }
-    if check::same(name, b"in_minutes") {
-        config(text, IntervalUnit::Minute);
-        return true;
-    }
-    if check::same(name, b"in_seconds") {
-        config(text, IntervalUnit::Second);
-        return true;
-    }
-    if check::same(name, b"in_milliseconds") {
-        config(text, IntervalUnit::Millisecond);
-        return true;
-    }
-    if check::same(name, b"in_microseconds") {
-        config(text, IntervalUnit::Microsecond);
-        return true;
-    }
-    if check::same(name, b"in_nanoseconds") {
-        config(text, IntervalUnit::Nanosecond);
-        return true;
-    }
-    false
+    UnitRead::None
 }
 
 fn config(text: &[u8], default_unit: IntervalUnit) {

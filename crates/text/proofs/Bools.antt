@@ -32,6 +32,13 @@ pub by-test {ℓ} : {A : Type ℓ} (x : Bool) → (x ≡ true → A) → (x ≡ 
 by-test true f g = f refl
 by-test false f g = g refl
 
+-- a test that decides P: it fails where P does not hold, and P does not hold where it fails
+pub fails : {P : Type 0} (x : Bool) → (x ≡ true → P) → (P → ⊥) → x ≡ false
+fails x f n = by-test x (λ e. absurd (n (f e))) (λ e. e)
+
+pub holds-not : {P : Type 0} {x : Bool} → x ≡ false → (P → x ≡ true) → P → ⊥
+holds-not {P} {x} e f p = both-ways x e (f p)
+
 -- ---- a range
 
 pub within-yes : (a b c : ℕ) → a ≤ b → b ≤ c → within a b c ≡ true

@@ -15,14 +15,14 @@ use borrow.Author.Tests.{eqb-true, le-leb, leb-true, le-ltb, ltb-false}
 use Rattle.refusal.specs.Outcome.{Outcome, accepted, refused}
 use Rattle.text.specs.Digits.{isDigit, worth, digits, value, twoDigits}
 use Rattle.text.specs.Utf8.{utf8, ascii}
-use Rattle.text.proofs.Bools.{and-left, and-right, and-false, or-cases, by-test}
+use Rattle.text.proofs.Bools.{and-left, and-right, and-false, or-cases, by-test, fails, holds-not}
 use Rattle.text.proofs.Utf8Agrees as utf
 use Rattle.text.proofs.Ascii.{ascii-nil, ascii-cons, ascii-append, ascii-utf8}
 use Rattle.timestamp.specs.Clock.{Clock, clock, inRange, nanosFrom, nanosOf, sinceMidnight}
 use Rattle.timestamp.specs.Grammar.{Figures, Secfrac, no-fraction, fraction}
 use Rattle.timestamp.proofs.Shapes.{all-digits, digits-head, by-one, by-two, one-figure, two-figures, one-value, two-value, not-sign, size-of, last-of, last-figure, seconds-end}
 use Rattle.timestamp.proofs.Agreement.{clash, none-some, both, ascii-figures, ascii-secfrac}
-use Rattle.timestamp.proofs.Refusals.{same, fails, holds-not}
+use Rattle.timestamp.proofs.Refusals.{same}
 use Rattle.time.specs.Grammar.{Hour, one, two, Written, minutes, seconds, Letter, upper, lower, TimeOfDay, full, Reads, reads, Refuses, not-utf8, no-time}
 use Rattle.time.specs.Grammar as Grammar
 use Rattle.time.specs.declared.Half.{Half}

@@ -1,6 +1,6 @@
 -- Why a stamp is refused: `Meaning.Refuses` has for each text the number that the computation gives, and no other. Assumes nothing.
 use mathlib.Core.Path.{_≡_, refl, sym, ap, _∙_, subst}
-use mathlib.Core.Bool.{Bool, true, false, false≢true}
+use mathlib.Core.Bool.{true, false}
 use mathlib.Core.Logic.{_↔_}
 use mathlib.Core.List.{List, _∷_, _++_}
 use mathlib.Core.Option.{Option, none, some}
@@ -14,20 +14,11 @@ use borrow.Author.Tests.{ne-eqb, eqb-false}
 use Rattle.number.specs.Widths.{inSigned}
 use Rattle.refusal.specs.Outcome.{Outcome, accepted, refused, andThen}
 use Rattle.text.specs.Utf8.{Utf8, utf8}
-use Rattle.text.proofs.Bools.{by-test}
+use Rattle.text.proofs.Bools.{by-test, fails, holds-not}
 use Rattle.text.proofs.Utf8Agrees as utf
 use Rattle.timestamp.specs.Answer.{isDate, dayOf, Timed, timeOf, isEnding, isSeparator, Moment, instant, onTime, afterDate, onDate, plainMoment, datetime, inNanos, stampNanos}
 use Rattle.timestamp.specs.Meaning.{Dated, dated, Refuses, not-utf8, no-date, no-separator, no-time, more-after, out-of-range}
 use Rattle.timestamp.proofs.Agreement.{agrees, clash, none-some, seam, date-size, day-read, DateIs, date-sound, is-separator, separator-sound, is-ending, ending-sound}
-
--- a test that fails where its relation does
-pub fails : {P : Type 0} (b : Bool) → (b ≡ true → P) → (P → ⊥) → b ≡ false
-fails true f n = absurd (n (f refl))
-fails false f n = refl
-
--- and the other way
-pub holds-not : {P : Type 0} {b : Bool} → b ≡ false → (P → b ≡ true) → P → ⊥
-holds-not e f p = false≢true (sym e ∙ f p)
 
 is-utf8 : {t : List ℕ} → Utf8 t → utf8 t ≡ true
 is-utf8 {t} u = utf.agrees t .0 u
