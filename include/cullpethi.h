@@ -24,12 +24,12 @@ enum cullpethi_status {
     CULLPETHI_TIME = 4,          /* no time part of a stamp, or a field of it is out of range */
     CULLPETHI_TAIL = 5,          /* bytes remain after the time that are not a single final z or Z */
     CULLPETHI_RANGE = 6,         /* the nanoseconds do not fit 64 signed bits, or the day number does not fit 32 */
-    CULLPETHI_TIME_OF_DAY = 7,   /* neither a time of day nor, for a time column, an integer of its width */
+    CULLPETHI_TIME_OF_DAY = 7,   /* a time-of-day text is neither a time nor, for a time column, an integer of its width */
     CULLPETHI_INTERVAL = 8,      /* an interval text has no division */
     CULLPETHI_REPEATED_UNIT = 9, /* a unit comes twice */
-    CULLPETHI_OVERFLOW = 10,     /* a contribution or a running total of an interval does not fit */
+    CULLPETHI_OVERFLOW = 10,     /* a contribution or a running total does not fit */
     CULLPETHI_NARROWED = 11,     /* the narrowed interval form cannot hold the result */
-    CULLPETHI_SITE_STAMP = 12,   /* a stamp, but no site stamp */
+    CULLPETHI_SITE_STAMP = 12,   /* the plain stamp reader accepts the text, but it is no site stamp */
     CULLPETHI_NO_UNIT = 255      /* the number of a default unit is none of cullpethi_unit */
 };
 

@@ -1,76 +1,118 @@
 //! Intervals: amounts with their units, as in `1 month -2.5 days`.
 use crate::library::{self, one};
-use crate::Refusal;
+use crate::{IntervalUnit, Refusal, Text};
 
-/// The unit of a last amount that has none, by its number in the library.
-#[derive(Clone, Copy, Debug, PartialEq, Eq, Hash)]
-#[repr(u8)]
-pub enum IntervalUnit {
-    Century = 0,
-    Decade = 1,
-    Year = 2,
-    Month = 3,
-    Week = 4,
-    Day = 5,
-    Hour = 6,
-    Minute = 7,
-    Second = 8,
-    Millisecond = 9,
-    Microsecond = 10,
-    Nanosecond = 11,
-}
-
-/// How an interval is read.
+/// How [`parse_interval_month_day_nano_config`] reads an interval: with which unit for a last amount that has none.
+///
+/// ```
+/// # use cullpethi::*;
+/// let in_hours = IntervalParseConfig::new(IntervalUnit::Hour);
+/// assert_eq!(parse_interval_month_day_nano_config("2", in_hours), parse_interval_month_day_nano("2 hours"));
+/// ```
 #[derive(Clone, Copy, Debug, PartialEq, Eq)]
 pub struct IntervalParseConfig {
     default_unit: IntervalUnit,
 }
 
 impl IntervalParseConfig {
-    pub fn new(default_unit: IntervalUnit) -> Self {
+    /// With this unit for a last amount that has none.
+    pub const fn new(default_unit: IntervalUnit) -> Self {
         Self { default_unit }
     }
 }
 
-/// Days and milliseconds.
+/// An interval in days and milliseconds, which do not pass for one another. The fields are those of arrow-buffer's type.
 #[derive(Clone, Copy, Debug, Default, PartialEq, Eq, Hash)]
 pub struct IntervalDayTime {
+    /// Days, 30 for each month of the text.
     pub days: i32,
+    /// Milliseconds.
     pub milliseconds: i32,
 }
 
-/// Months, days and nanoseconds.
+impl IntervalDayTime {
+    /// So many days and milliseconds.
+    ///
+    /// ```
+    /// # use cullpethi::*;
+    /// assert_eq!(parse_interval_day_time("1 day 2 ms"), Ok(IntervalDayTime::new(1, 2)));
+    /// ```
+    pub const fn new(days: i32, milliseconds: i32) -> Self {
+        Self { days, milliseconds }
+    }
+}
+
+/// An interval in months, days and nanoseconds, which do not pass for one another. The fields are those of arrow-buffer's type.
 #[derive(Clone, Copy, Debug, Default, PartialEq, Eq, Hash)]
 pub struct IntervalMonthDayNano {
+    /// Months, 12 for each year of the text.
     pub months: i32,
+    /// Days, 7 for each week of the text.
     pub days: i32,
+    /// Nanoseconds: hours and shorter units, and fractions of weeks and days.
     pub nanoseconds: i64,
 }
 
-/// The same, by its short name.
-pub type MonthDayNano = IntervalMonthDayNano;
+impl IntervalMonthDayNano {
+    /// So many months, days and nanoseconds.
+    ///
+    /// ```
+    /// # use cullpethi::*;
+    /// assert_eq!(parse_interval_month_day_nano("1.5 months"), Ok(IntervalMonthDayNano::new(1, 15, 0)));
+    /// ```
+    pub const fn new(months: i32, days: i32, nanoseconds: i64) -> Self {
+        Self {
+            months,
+            days,
+            nanoseconds,
+        }
+    }
+}
 
-/// An interval in months, where it has no days and no nanoseconds; years are the default unit.
+/// Months, days and nanoseconds of an interval as a tuple.
+///
+/// ```
+/// # use cullpethi::*;
+/// let (months, days, nanos): MonthDayNano = parse_interval_month_day_nano("1.5 months")?.into();
+/// assert_eq!((months, days, nanos), (1, 15, 0));
+/// # Ok::<(), Refusal>(())
+/// ```
+pub type MonthDayNano = (i32, i32, i64);
+
+/// The three counts in their order.
+impl From<IntervalMonthDayNano> for MonthDayNano {
+    fn from(of: IntervalMonthDayNano) -> Self {
+        (of.months, of.days, of.nanoseconds)
+    }
+}
+
+/// Reads an interval that has no days and no nanoseconds, and gives its months; years are the unit of a last amount that has none.
+///
+/// Refused with [`NotUtf8`](Refusal::NotUtf8), [`Interval`](Refusal::Interval), [`RepeatedUnit`](Refusal::RepeatedUnit),
+/// [`Overflow`](Refusal::Overflow), or [`Narrowed`](Refusal::Narrowed) where it has days or nanoseconds.
 ///
 /// ```
 /// # use cullpethi::*;
 /// assert_eq!(parse_interval_year_month("-1 year 1 month"), Ok(-11));
 /// assert_eq!(parse_interval_year_month("1 week"), Err(Refusal::Narrowed));
 /// ```
-pub fn parse_interval_year_month<T: AsRef<[u8]> + ?Sized>(text: &T) -> Result<i32, Refusal> {
+pub fn parse_interval_year_month<T: Text + ?Sized>(text: &T) -> Result<i32, Refusal> {
     one(text, library::cullpethi_parse_interval_year_month)
 }
 
-/// An interval in days, 30 to a month, and milliseconds; days are the default unit.
+/// Reads an interval, and gives its days, 30 to a month, and milliseconds; days are the unit of a last amount that has none.
+///
+/// Refused with [`NotUtf8`](Refusal::NotUtf8), [`Interval`](Refusal::Interval), [`RepeatedUnit`](Refusal::RepeatedUnit),
+/// [`Overflow`](Refusal::Overflow), or [`Narrowed`](Refusal::Narrowed) where its nanoseconds are no whole milliseconds, or a count does
+/// not fit 32 bits.
 ///
 /// ```
 /// # use cullpethi::*;
-/// assert_eq!(parse_interval_day_time("1.5"), Ok(IntervalDayTime { days: 1, milliseconds: 43_200_000 }));
+/// assert_eq!(parse_interval_day_time("1.5"), Ok(IntervalDayTime::new(1, 43_200_000)));
+/// assert_eq!(parse_interval_day_time("1 us"), Err(Refusal::Narrowed));
 /// ```
-pub fn parse_interval_day_time<T: AsRef<[u8]> + ?Sized>(
-    text: &T,
-) -> Result<IntervalDayTime, Refusal> {
-    let text = text.as_ref();
+pub fn parse_interval_day_time<T: Text + ?Sized>(text: &T) -> Result<IntervalDayTime, Refusal> {
+    let text = text.text_bytes();
     let mut r = IntervalDayTime::default();
     // SAFETY: the text is lent for the call, and the cells are fields of a local that nothing else refers to.
     let status = unsafe {
@@ -85,18 +127,21 @@ pub fn parse_interval_day_time<T: AsRef<[u8]> + ?Sized>(
     Ok(r)
 }
 
-/// An interval in months, days and nanoseconds; months are the default unit.
+/// Reads an interval, and gives its months, days and nanoseconds; months are the unit of a last amount that has none.
+///
+/// Refused with [`NotUtf8`](Refusal::NotUtf8), [`Interval`](Refusal::Interval), [`RepeatedUnit`](Refusal::RepeatedUnit) or
+/// [`Overflow`](Refusal::Overflow).
 ///
 /// ```
 /// # use cullpethi::*;
 /// let r = parse_interval_month_day_nano("1.5 months 1 second");
-/// assert_eq!(r, Ok(IntervalMonthDayNano { months: 1, days: 15, nanoseconds: 1_000_000_000 }));
+/// assert_eq!(r, Ok(IntervalMonthDayNano::new(1, 15, 1_000_000_000)));
 /// assert_eq!(parse_interval_month_day_nano("1 day 1 day"), Err(Refusal::RepeatedUnit));
 /// ```
-pub fn parse_interval_month_day_nano<T: AsRef<[u8]> + ?Sized>(
+pub fn parse_interval_month_day_nano<T: Text + ?Sized>(
     text: &T,
 ) -> Result<IntervalMonthDayNano, Refusal> {
-    let text = text.as_ref();
+    let text = text.text_bytes();
     let mut r = IntervalMonthDayNano::default();
     // SAFETY: as in `parse_interval_day_time`.
     let status = unsafe {
@@ -112,18 +157,21 @@ pub fn parse_interval_month_day_nano<T: AsRef<[u8]> + ?Sized>(
     Ok(r)
 }
 
-/// The same with a default unit.
+/// Reads an interval, and gives its months, days and nanoseconds; the unit of a last amount that has none is the caller's.
+///
+/// Refused with [`NotUtf8`](Refusal::NotUtf8), [`Interval`](Refusal::Interval), [`RepeatedUnit`](Refusal::RepeatedUnit) or
+/// [`Overflow`](Refusal::Overflow).
 ///
 /// ```
 /// # use cullpethi::*;
 /// let r = parse_interval_month_day_nano_config("1 day 2", IntervalParseConfig::new(IntervalUnit::Hour));
-/// assert_eq!(r, Ok(IntervalMonthDayNano { months: 0, days: 1, nanoseconds: 7_200_000_000_000 }));
+/// assert_eq!(r, Ok(IntervalMonthDayNano::new(0, 1, 7_200_000_000_000)));
 /// ```
-pub fn parse_interval_month_day_nano_config<T: AsRef<[u8]> + ?Sized>(
+pub fn parse_interval_month_day_nano_config<T: Text + ?Sized>(
     text: &T,
     config: IntervalParseConfig,
 ) -> Result<IntervalMonthDayNano, Refusal> {
-    let text = text.as_ref();
+    let text = text.text_bytes();
     let mut r = IntervalMonthDayNano::default();
     // SAFETY: as in `parse_interval_day_time`.
     let status = unsafe {

@@ -1,5 +1,5 @@
 //! The functions of the static library, and the one place that calls those with one cell.
-use crate::Refusal;
+use crate::{Refusal, Text};
 
 /// A function with one cell.
 pub type One<V> = unsafe extern "C" fn(*const u8, usize, *mut V) -> u8;
@@ -54,8 +54,8 @@ extern "C" {
 }
 
 /// The value that a function writes into its one cell.
-pub fn one<T: AsRef<[u8]> + ?Sized, V: Default>(text: &T, f: One<V>) -> Result<V, Refusal> {
-    let text = text.as_ref();
+pub fn one<T: Text + ?Sized, V: Default>(text: &T, f: One<V>) -> Result<V, Refusal> {
+    let text = text.text_bytes();
     let mut cell = V::default();
     // SAFETY: the text is lent for the call, and the cell is a local that nothing else refers to.
     Refusal::unless_ok(unsafe { f(text.as_ptr(), text.len(), &mut cell) })?;

@@ -1,21 +1,51 @@
 //! Why a text is refused.
 use std::fmt;
 
-/// Why a text is refused, in the order in which the reasons are looked for.
+/// Why a text is refused. Where several reasons hold, the reader gives the first of this order. Each has a [`number`](Refusal::number), and
+/// is an error with a sentence.
+///
+/// ```
+/// use cullpethi::*;
+///
+/// assert_eq!(string_to_timestamp_nanos(b"\xFF"), Err(Refusal::NotUtf8));
+/// assert_eq!(string_to_timestamp_nanos("1970-02-30"), Err(Refusal::Date));
+/// assert_eq!(string_to_timestamp_nanos("1970-01-01_00:00:00"), Err(Refusal::Separator));
+/// assert_eq!(string_to_timestamp_nanos("1970-01-01T24:00:00"), Err(Refusal::Time));
+/// assert_eq!(string_to_timestamp_nanos("1970-01-01T00:00:00+01:00"), Err(Refusal::Tail));
+/// assert_eq!(string_to_timestamp_nanos("2263-01-01"), Err(Refusal::Range));
+/// assert_eq!(string_to_time_nanoseconds("24:00"), Err(Refusal::TimeOfDay));
+/// assert_eq!(parse_interval_month_day_nano("1  day"), Err(Refusal::Interval));
+/// assert_eq!(parse_interval_month_day_nano("1 day 1 d"), Err(Refusal::RepeatedUnit));
+/// assert_eq!(parse_interval_month_day_nano("2147483648 months"), Err(Refusal::Overflow));
+/// assert_eq!(parse_interval_year_month("1 day"), Err(Refusal::Narrowed));
+/// assert_eq!(site_stamp("1970-01-01 00:00:00Z"), Err(Refusal::SiteStamp));
+/// ```
 #[derive(Clone, Copy, Debug, PartialEq, Eq, Hash, PartialOrd, Ord)]
 #[repr(u8)]
 pub enum Refusal {
+    /// The bytes are not well-formed UTF-8: `b"\xFF"`.
     NotUtf8 = 1,
+    /// There is no date where one must stand, or it is no day of the calendar, or a stamp has fewer than 10 bytes: `1970-02-30`.
     Date = 2,
+    /// The byte behind a stamp's date is not T, t or a space: `1970-01-01_00:00:00`.
     Separator = 3,
+    /// A stamp has no time behind its separator, or a field of it is out of range: `1970-01-01T24:00:00`.
     Time = 4,
+    /// Behind a stamp's time there is something else than a single final Z or z, as an offset: `1970-01-01T00:00:00+01:00`.
     Tail = 5,
+    /// The nanoseconds of a stamp do not fit 64 bits, or the day number of a signed date does not fit 32: `2263-01-01`.
     Range = 6,
+    /// The text is no time of day and, for a time column, no integer of its width: `24:00`.
     TimeOfDay = 7,
+    /// The text is no interval, that is, no list of amounts with their units: `1  day`, with two spaces.
     Interval = 8,
+    /// The text is an interval in which a unit comes twice, in whatever spellings: `1 day 1 d`.
     RepeatedUnit = 9,
+    /// An amount of the interval, or what it adds up to so far, does not fit: `2147483648 months`.
     Overflow = 10,
+    /// The interval is read, but the form that was asked for cannot hold it: `1 day` in months.
     Narrowed = 11,
+    /// The text is a stamp, but none in the form of a site stamp: `1970-01-01 00:00:00Z`.
     SiteStamp = 12,
 }
 
@@ -36,12 +66,12 @@ impl Refusal {
         Refusal::SiteStamp,
     ];
 
-    /// The refusal's number.
+    /// The refusal's number, from 1 to 12: what the C interface returns.
     ///
     /// ```
     /// assert_eq!(cullpethi::Refusal::Tail.number(), 5);
     /// ```
-    pub fn number(self) -> u8 {
+    pub const fn number(self) -> u8 {
         self as u8
     }
 

@@ -1,12 +1,11 @@
 //! Each function, accepted and refused.
 use cullpethi::*;
+use std::borrow::Cow;
+use std::rc::Rc;
+use std::sync::Arc;
 
 fn counts(months: i32, days: i32, nanoseconds: i64) -> Result<IntervalMonthDayNano, Refusal> {
-    Ok(IntervalMonthDayNano {
-        months,
-        days,
-        nanoseconds,
-    })
+    Ok(IntervalMonthDayNano::new(months, days, nanoseconds))
 }
 
 #[test]
@@ -80,10 +79,7 @@ fn intervals() {
     );
     assert_eq!(
         parse_interval_day_time("-1 month 1 ms"),
-        Ok(IntervalDayTime {
-            days: -30,
-            milliseconds: 1
-        })
+        Ok(IntervalDayTime::new(-30, 1))
     );
     assert_eq!(
         parse_interval_day_time("71582788 months 8 days"),
@@ -94,6 +90,123 @@ fn intervals() {
         parse_interval_month_day_nano("1  day"),
         Err(Refusal::Interval)
     );
+}
+
+#[test]
+fn counts_of_an_interval() {
+    let interval = IntervalMonthDayNano::new(1, 2, 3);
+    assert_eq!(
+        (interval.months, interval.days, interval.nanoseconds),
+        (1, 2, 3)
+    );
+    let tuple: MonthDayNano = interval.into();
+    assert_eq!(tuple, (1, 2, 3));
+    let day_time = IntervalDayTime::new(1, 2);
+    assert_eq!((day_time.days, day_time.milliseconds), (1, 2));
+}
+
+/// What passes where arrow-cast takes `&str`, and bytes as they may be held.
+#[test]
+fn texts() {
+    let (s, b) = ("1970-01-02", b"1970-01-02");
+    let (string, cow, boxed) = (String::from(s), Cow::from(s), Box::<str>::from(s));
+    let (rc, arc) = (Rc::<str>::from(s), Arc::<str>::from(s));
+    let lent: &mut str = &mut String::from(s);
+    for day in [
+        parse_date32(s),
+        parse_date32(&s),
+        parse_date32(&string),
+        parse_date32(&cow),
+        parse_date32(&Cow::<str>::Owned(string.clone())),
+        parse_date32(&boxed),
+        parse_date32(&rc),
+        parse_date32(&arc),
+        parse_date32(&lent),
+        parse_date32(b),
+        parse_date32(&b[..]),
+        parse_date32(&b.to_vec()),
+        parse_date32(&Cow::<[u8]>::from(&b[..])),
+        parse_date32(&Box::<[u8]>::from(&b[..])),
+        parse_date32(&Rc::<[u8]>::from(&b[..])),
+        parse_date32(&Arc::<[u8]>::from(&b[..])),
+        Date32Type::read(&cow),
+        Date32Type::parse(&arc).ok_or(Refusal::Date),
+    ] {
+        assert_eq!(day, Ok(1));
+    }
+    assert_eq!(site_stamp(&cow), Err(Refusal::SiteStamp));
+    assert_eq!(parse_interval_day_time(&boxed), Err(Refusal::Interval));
+    assert_eq!(parse_interval_month_day_nano(&cow), Err(Refusal::Interval));
+    let in_days = IntervalParseConfig::new(IntervalUnit::Day);
+    let days = parse_interval_month_day_nano_config(&Arc::<str>::from("2"), in_days);
+    assert_eq!(days, counts(0, 2, 0));
+    // The methods of the texts themselves are not hidden.
+    assert_eq!(string.bytes().next(), Some(b'1'));
+}
+
+/// The unit that the library takes a word for: that with which an amount of 1 and no unit gives the same interval.
+fn unit_in_the_library(word: &str) -> Option<IntervalUnit> {
+    let read = parse_interval_month_day_nano(&format!("1{word}")).ok()?;
+    let mut units = IntervalUnit::ALL.into_iter();
+    units.find(|unit| {
+        parse_interval_month_day_nano_config("1", IntervalParseConfig::new(*unit)) == Ok(read)
+    })
+}
+
+#[test]
+fn spellings_are_the_library_s() {
+    for (i, unit) in IntervalUnit::ALL.into_iter().enumerate() {
+        assert_eq!(unit as usize, i);
+        for word in unit.spellings() {
+            let capitals = word.to_uppercase();
+            let kelvin = word.replace('k', "\u{212A}");
+            let mixed = capitals[..1].to_string() + &word[1..];
+            for word in [word, capitals.as_str(), kelvin.as_str(), mixed.as_str()] {
+                assert_eq!(word.parse(), Ok(unit));
+                assert_eq!(unit_in_the_library(word), Some(unit));
+            }
+        }
+    }
+}
+
+/// Whether a word is a unit's, and which, is the same in both.
+fn same(word: &str) {
+    let unit = unit_in_the_library(word);
+    assert_eq!(word.parse(), unit.ok_or(Refusal::Interval), "{word:?}");
+}
+
+#[test]
+fn words_are_the_library_s() {
+    let letters: Vec<char> = ('a'..='z')
+        .chain(['K', '\u{212A}', '\u{17F}', 'é'])
+        .collect();
+    // Each word of one to three letters.
+    let mut words = vec![String::new()];
+    for _ in 0..3 {
+        let longer = |word: &String| {
+            letters
+                .iter()
+                .map(|c| format!("{word}{c}"))
+                .collect::<Vec<_>>()
+        };
+        words = words.iter().flat_map(longer).collect();
+        words.iter().for_each(|word| same(word));
+    }
+    // Each spelling with a letter left out, put in or exchanged.
+    for word in IntervalUnit::ALL.iter().flat_map(|unit| unit.spellings()) {
+        for i in 0..=word.len() {
+            let (front, rest) = word.split_at(i);
+            for c in &letters {
+                same(&format!("{front}{c}{rest}"));
+                same(&format!("{front}{c}{}", rest.get(1..).unwrap_or("")));
+            }
+            if i > 0 || rest.len() > 1 {
+                same(&format!("{front}{}", rest.get(1..).unwrap_or("")));
+            }
+        }
+    }
+    assert_eq!("".parse::<IntervalUnit>(), Err(Refusal::Interval));
+    assert_eq!(" day".parse::<IntervalUnit>(), Err(Refusal::Interval));
 }
 
 #[test]

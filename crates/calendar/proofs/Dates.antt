@@ -12,7 +12,7 @@ use mir.Facts.{toZ-pos}
 use Rattle.number.proofs.Zed.{add-pn, sub-ℤ, eq-of, fits-of}
 use Rattle.text.proofs.Bools.{within-yes, within-under, within-over}
 use Rattle.calendar.specs.Calendar.{leap, daysOf, yearDays, yearStart, monthDays, before, dayNumber, civil}
-use Rattle.calendar.specs.Cycle.{starts}
+use Rattle.calendar.specs.Cycle.{start}
 use Rattle.calendar.proofs.Years.{Counts, shift, in-cycle, first-day}
 
 -- ---- dates that the calendar does not have
@@ -41,11 +41,11 @@ module _ (y : ℤ) (n : ℕ) (h : Counts n y) where
   pub number :
       (m d : ℕ) {u : ℕ} →
       u < 2 ^ 63 →
-      u ≡ starts n + before (leap y) m + (d - 1) →
+      u ≡ start n + before (leap y) m + (d - 1) →
       1 ≤ d →
       d ≤ monthDays (leap y) m →
       (e : ℕ) →
-      starts 2147485970 ≡ e →
+      start 2147485970 ≡ e →
       some (toZ w64 u -ℤ pos e) ≡ civil y m d
   number m d {u} fits p first last e q =
       rw (toZ-pos w64 fits, within-yes 1 d (monthDays (leap y) m) first last) (ap some same)

@@ -6,4 +6,3 @@ pub mod Dates
 pub mod Days
 pub mod Readings
 pub mod Bounds
-pub mod Rule

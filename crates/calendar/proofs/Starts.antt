@@ -1,27 +1,23 @@
--- Tables of year starts: a list that one test, which antt computes, finds right at every entry holds what counting gives.
--- Assumes nothing.
-use mathlib.Core.Path.{_≡_, sym, subst}
-use mathlib.Core.Bool.{Bool, true, cond, _&&_}
+-- The table of year starts: a list of 401 entries that one test, which antt computes, finds right at every entry. Assumes nothing.
+use mathlib.Core.Path.{_≡_}
+use mathlib.Core.Bool.{Bool}
 use mathlib.Core.List.{List}
 use Prim.Native.Nat.{ℕ, _<_}
-use native.Mathlib.Nat.{le-trans}
-use lib.Dec.{T, eqb, leb}
+use native.Mathlib.Omega.{arith}
+use lib.Dec.{T, eqb}
 use lib.ListN.{getD, length}
-use borrow.Author.Tests.{leb-true}
-use Rattle.text.proofs.Bools.{and-left, and-right, by-test}
 use Rattle.text.proofs.Computed.{every, entry}
-use Rattle.calendar.specs.Cycle.{starts}
+use Rattle.calendar.specs.Cycle.{start, YearStarts}
 
--- the list has 401 entries, and each is the start of the year at its place
-abbrev right : List ℕ → Bool
-right xs = leb 401 (length xs) && every (λ (i x : ℕ). eqb x (starts i)) 0 xs
+-- each entry is the start of the year at its place
+abbrev pub right : List ℕ → Bool
+right xs = every (λ (i x : ℕ). eqb x (start i)) 0 xs
 
--- so a start may be written for an entry of a list that is right
-pub year-start : (xs : List ℕ) (k : ℕ) → k < 401 → getD xs k 0 ≡ cond (right xs) (starts k) (getD xs k 0)
-year-start xs k h = by-test (right xs) (λ e. rw e (yes e)) (λ e. rw e)
-  where
-    yes : right xs ≡ true → getD xs k 0 ≡ starts k
-    yes e =
-        let f : ℕ → ℕ → Bool = λ (i x : ℕ). eqb x (starts i) in
-        entry starts xs k (subst T (sym (and-right (leb 401 (length xs)) (every f 0 xs) e)) tt)
-        (le-trans h (leb-true 401 (length xs) (and-left (leb 401 (length xs)) (every f 0 xs) e)))
+pub is-table : (xs : List ℕ) → length xs ≡ 401 → T (right xs) → YearStarts xs
+unfolding YearStarts
+is-table xs len t = (omega (arith, len), λ y h. omega (arith, entry start xs y t (omega (arith, len))))
+
+-- what the table holds
+pub year-start : (xs : List ℕ) → YearStarts xs → (y : ℕ) → y < 401 → getD xs y 0 ≡ start y
+unfolding YearStarts
+year-start xs h y k = h .1 y k

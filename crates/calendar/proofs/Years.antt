@@ -12,7 +12,7 @@ use borrow.Author.Tests.{eq-eqb, ne-eqb, eqb-true, eqb-false, leb-true, leb-fals
 use Rattle.number.proofs.Zed.{P, N, add-pn, sub-ℤ, P-neg, N-neg, le-yes, le-no, abs-up}
 use Rattle.text.proofs.Bools.{by-test}
 use Rattle.calendar.specs.Calendar.{leap, daysOf, yearDays, span, yearStart}
-use Rattle.calendar.specs.Cycle.{starts}
+use Rattle.calendar.specs.Cycle.{start}
 
 -- n is the year y, counted from the start of a cycle
 abbrev pub Counts : ℕ → ℤ → Type 0
@@ -53,38 +53,38 @@ shift (negsuc a) n h =
 
 -- ---- year starts, by cycles
 
-one-more : (n : ℕ) → starts (suc n) ≡ starts n + yearDays (pos n)
-unfolding starts
+one-more : (n : ℕ) → start (suc n) ≡ start n + yearDays (pos n)
+unfolding start
 one-more n = refl
 
-pub year-after : (n : ℕ) → starts (n + 1) ≡ starts n + yearDays (pos n)
+pub year-after : (n : ℕ) → start (n + 1) ≡ start n + yearDays (pos n)
 year-after n = rw add-one (one-more n)
 
-whole : starts 400 ≡ 146097
-unfolding starts
+whole : start 400 ≡ 146097
+unfolding start
 whole = refl
 
-turn : (n : ℕ) → starts (n + 400) ≡ starts n + 146097
-unfolding starts
+turn : (n : ℕ) → start (n + 400) ≡ start n + 146097
+unfolding start
 turn zero = whole
 turn (suc n) =
     rw (suc-add n 400)
     (omega (arith, turn n, one-more (n + 400), one-more n, ap daysOf (same-place (n + 400) n (omega arith))))
 
-turns : (q r : ℕ) → starts (q * 400 + r) ≡ q * 146097 + starts r
+turns : (q r : ℕ) → start (q * 400 + r) ≡ q * 146097 + start r
 turns zero r = rw (zero-mul 400, zero-mul 146097, zero-add r) (omega arith)
 turns (suc q) r =
     let e : suc q * 400 + r ≡ q * 400 + r + 400 = omega arith in
-    ap starts e ∙ omega (arith, turn (q * 400 + r), turns q r)
+    ap start e ∙ omega (arith, turn (q * 400 + r), turns q r)
 
-pub by-cycle : (n : ℕ) → starts n ≡ n / 400 * 146097 + starts (n % 400)
+pub by-cycle : (n : ℕ) → start n ≡ n / 400 * 146097 + start (n % 400)
 by-cycle n =
     let e : n ≡ n / 400 * 400 + n % 400 = omega arith in
-    ap starts e ∙ turns (n / 400) (n % 400)
+    ap start e ∙ turns (n / 400) (n % 400)
 
 -- ---- the first day of a year: 1970 is counted as 2147485970, and 784353144398 days lie before it
 
-spans : (y : ℤ) (n : ℕ) → Counts n y → (k : ℕ) → span y k + starts n ≡ starts (n + k)
+spans : (y : ℤ) (n : ℕ) → Counts n y → (k : ℕ) → span y k + start n ≡ start (n + k)
 unfolding span
 spans y n h zero = rw (add-zero n) (omega arith)
 spans y n h (suc k) =
@@ -96,11 +96,11 @@ spans y n h (suc k) =
       ap daysOf (shift (y +ℤ pos k) (n + k) (omega (arith, add-pn y (pos k)))),
     ))
 
-place-of-1970 : starts 370 ≡ 135140
-unfolding starts
+place-of-1970 : start 370 ≡ 135140
+unfolding start
 place-of-1970 = refl
 
-pub epoch : starts 2147485970 ≡ 784353144398
+pub epoch : start 2147485970 ≡ 784353144398
 epoch = by-cycle 2147485970 ∙ rw place-of-1970
 
 -- a year is k years after 1970, or some years before it
@@ -127,16 +127,16 @@ sooner y (suc k) h =
     years : natAbs (pos 1970 -ℤ y) ≡ suc k
     years = omega (arith, sub-ℤ (pos 1970) y, abs-up (pos 1970 -ℤ y) (omega (arith, sub-ℤ (pos 1970) y)))
 
-pub first-day : (y : ℤ) (n : ℕ) → Counts n y → P (yearStart y) + starts 2147485970 ≡ N (yearStart y) + starts n
+pub first-day : (y : ℤ) (n : ℕ) → Counts n y → P (yearStart y) + start 2147485970 ≡ N (yearStart y) + start n
 first-day y n h = by-1970 y after before
   where
-    after : (k : ℕ) → P y ≡ N y + 1970 + k → P (yearStart y) + starts 2147485970 ≡ N (yearStart y) + starts n
+    after : (k : ℕ) → P y ≡ N y + 1970 + k → P (yearStart y) + start 2147485970 ≡ N (yearStart y) + start n
     after k e =
         let q : 2147485970 + k ≡ n = omega arith in
-        rw (later y k e) (omega (arith, spans (pos 1970) 2147485970 refl k, ap starts q))
+        rw (later y k e) (omega (arith, spans (pos 1970) 2147485970 refl k, ap start q))
 
-    before : (k : ℕ) → P y + suc k ≡ N y + 1970 → P (yearStart y) + starts 2147485970 ≡ N (yearStart y) + starts n
+    before : (k : ℕ) → P y + suc k ≡ N y + 1970 → P (yearStart y) + start 2147485970 ≡ N (yearStart y) + start n
     before k e =
         let q : n + suc k ≡ 2147485970 = omega arith in
         let z : ℤ = pos (span y (suc k)) in
-        rw (sooner y (suc k) e) (omega (arith, spans y n h (suc k), ap starts q, P-neg z, N-neg z))
+        rw (sooner y (suc k) e) (omega (arith, spans y n h (suc k), ap start q, P-neg z, N-neg z))

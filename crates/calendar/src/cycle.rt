@@ -3,10 +3,10 @@ ghost use mathlib.Core.Path.{_≡_};
 ghost use Prim.Native.Nat.{_+_, _<_, _≤_};
 ghost use lib.IntN.{_+ℤ_, pos};
 ghost use Rattle.calendar.specs.Calendar.{yearDays, before};
-ghost use Rattle.calendar.specs.Cycle.{starts};
+ghost use Rattle.calendar.specs.Cycle.{start, YearStarts};
 
 // The day number of each year's start in the cycle, and one past the end.
-const STARTS: [u32; 401] = [
+pub const STARTS: [u32; 401] = [
     0,
     366,
     731,
@@ -426,50 +426,17 @@ pub fn counted(year: i32) -> u64
     (year as i64 + 2_147_484_000) as u64
 }
 
-// The one read of the table for a date: it is built anew at each use.
-pub fn year_of_cycle(y: usize) -> Year
-    requires { ⌜ y < 400 ⌝ }
-    ensures { λ r. ⌜ (r .start ≡ starts y) × (r .days ≡ yearDays (pos y)) ⌝ }
+// A year of the cycle, from the table: its start, and its days up to the next start.
+pub fn year_of_cycle(starts: &[u32; 401], y: usize) -> Year
+    requires { ⌜ YearStarts (now starts) × (y < 400) ⌝ }
+    ensures { λ r. ⌜ (r .start ≡ start y) × (r .days ≡ yearDays (pos y)) ⌝ }
 {
-    let table = STARTS;
-    let start = table[y];
-    let end = table[y + 1];
+    let start = starts[y];
+    let end = starts[y + 1];
     Year {
         start,
         days: end - start,
     }
-}
-
-// An entry of the table by the rule of leap years: every fourth has a day more, but of the centuries only the first.
-fn start_by_rule(y: u32) -> u32
-    requires { ⌜ y < 401 ⌝ }
-    ensures { λ r. ⌜ r ≡ starts y ⌝ }
-{
-    365 * y + (y + 3) / 4 - (y + 99) / 100 + (y + 399) / 400
-}
-
-// The same year without the table, since that is built anew at each use.
-fn year_by_rule(y: u32) -> Year
-    requires { ⌜ y < 400 ⌝ }
-    ensures { λ r. ⌜ (r .start ≡ starts y) × (r .days ≡ yearDays (pos y)) ⌝ }
-{
-    let first = start_by_rule(y);
-    let next = start_by_rule(y + 1);
-    Year {
-        start: first,
-        days: next - first,
-    }
-}
-
-// The year of the cycle that a year is: years of four digits, as nearly all are, go by the rule.
-pub fn year_at(year: i32, y: usize) -> Year
-    requires { ⌜ y < 400 ⌝ }
-    ensures { λ r. ⌜ (r .start ≡ starts y) × (r .days ≡ yearDays (pos y)) ⌝ }
-{
-    if (0 <= year) & (year <= 9999) {
-        return year_by_rule(y as u32);
-    }
-    year_of_cycle(y)
 }
 
 // The days of the year before a month, 13 being the next January.

@@ -1,6 +1,6 @@
 -- Laws that belong to no one function.
+pub mod Agreement
 pub mod Millis
 pub mod Outcomes
-pub mod Ranges
 pub mod Readings
-pub mod Widths32
+pub mod Widths

@@ -7,7 +7,7 @@ use Prim.Native.Nat.{ℕ, suc}
 use native.Mathlib.Nat.{div-one}
 use lib.IntN.{ℤ, pos, negsuc, negℤ}
 use lib.Signed.{quotZ}
-use mir.Syntax.{Width, w64}
+use mir.Syntax.{Width}
 use mir.Val.{SFits}
 use mir.Facts.{toZ-ofZ}
 use Rattle.number.proofs.Ranges.{rd}
@@ -46,8 +46,12 @@ whole (refused n) = refl
 abbrev pub perUnit : ℕ → Read64 → Outcome ℤ
 perUnit k r = divided k (outcome64 r)
 
-pub in-unit : (k : ℕ) {n r : ℤ} → SFits w64 n → SFits w64 r → r ≡ quotZ (rd w64 n) (pos k) → accepted (rd w64 r) ≡ divided k (accepted n)
+pub in-unit : (k : ℕ) {w : Width} {n r : ℤ} → SFits w n → SFits w r → r ≡ quotZ (rd w n) (pos k) → accepted (rd w r) ≡ divided k (accepted n)
 in-unit k f g e = back g (ap accepted (rw (toZ-ofZ f) at e))
+
+-- and a value n of it that is divided later
+pub in-nanos : (k : ℕ) {w : Width} {n : ℤ} {o : Outcome ℤ} → SFits w n → accepted n ≡ o → accepted (quotZ (rd w n) (pos k)) ≡ divided k o
+in-nanos k f e = rw (toZ-ofZ f, ← e)
 
 -- ---- a time, an integer, a time once trimmed
 
@@ -55,13 +59,13 @@ module _ (k bits : ℕ) (t : List ℕ) where
   abbrev pub rest : Outcome ℤ
   rest = orElse (asInteger bits t) (divided k (timeNanos (trimmed t)))
 
-  pub a-time : {z : ℤ} → SFits w64 z → accepted z ≡ timeNanos t → accepted (quotZ (rd w64 z) (pos k)) ≡ timeColumn k bits t
-  a-time f e = rw (toZ-ofZ f, ← e)
+  pub a-time : {w : Width} {z : ℤ} → SFits w z → accepted z ≡ timeNanos t → accepted (quotZ (rd w z) (pos k)) ≡ timeColumn k bits t
+  a-time f e = rw (← e) (in-nanos k f refl)
 
   pub no-time : {n : ℕ} {o : Outcome ℤ} → refused n ≡ timeNanos t → o ≡ rest → o ≡ timeColumn k bits t
   no-time e q = rw (← e) q
 
-  pub an-integer : {z : ℤ} → SFits w64 z → some z ≡ integer true bits t → accepted (rd w64 z) ≡ rest
+  pub an-integer : {w : Width} {z : ℤ} → SFits w z → some z ≡ integer true bits t → accepted (rd w z) ≡ rest
   an-integer f e = rw (← e) (back f refl)
 
   pub no-integer : {o : Outcome ℤ} → none ≡ integer true bits t → o ≡ divided k (timeNanos (trimmed t)) → o ≡ rest

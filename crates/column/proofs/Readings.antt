@@ -1,47 +1,40 @@
 -- Readings of the definitions: document 01's of stamps, dates and times of day that are not marked P, each column at least once, and each
 -- refusal from 1 to 7. Assumes nothing.
-use mathlib.Core.Path.{_≡_, refl}
-use mathlib.Core.List.{List, [], _∷_, map}
+use mathlib.Core.Path.{refl}
+use mathlib.Core.List.{List, [], _∷_}
 use Prim.Native.Nat.{ℕ}
 use Prim.Native.String.{String}
 use lib.IntN.{ℤ, pos, negℤ}
 use Rattle.calendar.specs.Calendar.{span, before}
 use Rattle.date.specs.Answer.{toHyphen, extendedYmd, shortDay, plainDay}
-use Rattle.date.specs.Grammar.{noDigits}
+use Rattle.clock.specs.Grammar.{noDigits}
 use Rattle.refusal.specs.Outcome.{Outcome, accepted, refused}
 use Rattle.text.specs.Digits.{digits, value, run}
 use Rattle.text.specs.Quoted.{bytes}
 use Rattle.text.specs.Trim.{blanks, trimStart, trimEnd}
 use Rattle.text.specs.Utf8.{wellFormed}
+use Rattle.text.proofs.Table.{Row, row, Readings}
 use Rattle.text.specs.WhiteSpace.{white1, white2, white3, whiteOf}
 use Rattle.time.specs.Answer.{timeOfDay, timeNanos}
 use Rattle.timestamp.specs.Answer.{dayOf, timeOf, plainMoment}
-use Rattle.timestamp.specs.Clock.{nanosFrom}
+use Rattle.clock.specs.Clock.{nanosOf}
 use Rattle.column.specs.Columns.{Column, TimestampNanosecond, TimestampMicrosecond, TimestampMillisecond, TimestampSecond, Time64Nanosecond, Time64Microsecond, Time32Millisecond, Time32Second, Date32, Date64, column}
 
--- a reader, a text, and the answer
-pub data Row : Type 0 where
-  row : (List ℕ → Outcome ℤ) → List ℕ → Outcome ℤ → Row
+-- a column, a text, and what it reads
+abbrev reads : Column → String → ℤ → Row (Outcome ℤ)
+reads c t z = row (column c (bytes t)) (accepted z)
 
-abbrev computed : Row → Outcome ℤ
-computed (row reader t o) = reader t
-
-abbrev told : Row → Outcome ℤ
-told (row reader t o) = o
-
-abbrev reads : Column → String → ℤ → Row
-reads c t z = row (column c) (bytes t) (accepted z)
-
-abbrev refuses : Column → String → ℕ → Row
-refuses c t n = row (column c) (bytes t) (refused n)
+-- or why it refuses
+abbrev refuses : Column → String → ℕ → Row (Outcome ℤ)
+refuses c t n = row (column c (bytes t)) (refused n)
 
 abbrev minus : ℕ → ℤ
 minus k = negℤ (pos k)
 
-abbrev rows : List Row
+abbrev rows : List (Row (Outcome ℤ))
 rows =
     -- document 01, "Readings on either side"
-    row timeNanos (bytes "0:00 AM") (refused 7) ∷
+    row (timeNanos (bytes "0:00 AM")) (refused 7) ∷
     refuses Time64Nanosecond " 1234" 7 ∷
     reads Time64Nanosecond "1234" (pos 1_234) ∷
     reads TimestampSecond "1969-12-31T23:59:59.5" (pos 0) ∷
@@ -61,13 +54,13 @@ rows =
     refuses Date64 " 1970-01-02" 2 ∷
     reads Date64 "1970-01-02" (pos 86_400_000) ∷
     -- each refusal of a stamp
-    row (column TimestampSecond) (0xFF ∷ []) (refused 1) ∷
+    row (column TimestampSecond (0xFF ∷ [])) (refused 1) ∷
     refuses TimestampSecond "2023-02-29" 2 ∷
     refuses TimestampSecond "2023-02-28_00:00:00" 3 ∷
     refuses TimestampSecond "1997-01-31 092656+04:00" 4 ∷
     refuses TimestampSecond "2023-02-28T00:00:00+00:00" 5 ∷
     []
 
-pub readings : map computed rows ≡ map told rows
-unfolding digits value run blanks trimStart trimEnd wellFormed white1 white2 white3 whiteOf span before dayOf timeOf plainMoment nanosFrom timeOfDay toHyphen extendedYmd shortDay plainDay noDigits
+pub readings : Readings rows
+unfolding digits value run blanks trimStart trimEnd wellFormed white1 white2 white3 whiteOf span before dayOf timeOf plainMoment nanosOf timeOfDay toHyphen extendedYmd shortDay plainDay noDigits
 readings = refl

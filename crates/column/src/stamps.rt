@@ -1,8 +1,10 @@
-// Timestamp columns: nanoseconds divided toward zero.
+// Timestamp columns: nanoseconds divided toward zero. Each `parse` makes the table of year starts and lends it to its `parse_with`.
 use crate::units;
 use refusal::Read64;
-use timestamp::stamp::string_to_timestamp_nanos;
+use text::trim::trim_pre_and_post_whitespace;
+use timestamp::stamp::string_to_timestamp_nanos_with;
 ghost use mathlib.Core.Path.{_≡_};
+ghost use Rattle.calendar.specs.Cycle.{YearStarts};
 ghost use Rattle.refusal.specs.Outcome.{outcome64};
 ghost use Rattle.timestamp.specs.Answer.{stampNanos};
 ghost use Rattle.column.specs.Columns.{retried, column, TimestampNanosecond, TimestampMicrosecond, TimestampMillisecond, TimestampSecond};
@@ -16,14 +18,16 @@ pub struct TimestampMillisecondType {}
 pub struct TimestampSecondType {}
 
 // The nanoseconds of the text as given, then of the trimmed text.
-fn nanos(s: &[u8]) -> Read64
+fn nanos(starts: &[u32; 401], s: &[u8]) -> Read64
+    requires { ⌜ YearStarts (now starts) ⌝ }
     ensures { λ r. ⌜ outcome64 r ≡ retried stampNanos (now (s .entry)) ⌝ }
 {
-    match string_to_timestamp_nanos(s) {
+    match string_to_timestamp_nanos_with(starts, s) {
         Read64::Value(z) => Read64::Value(z),
-        Read64::Refused(_) => string_to_timestamp_nanos(text::trim::trim_pre_and_post_whitespace(
-            s,
-        )),
+        Read64::Refused(_) => string_to_timestamp_nanos_with(
+            starts,
+            trim_pre_and_post_whitespace(s),
+        ),
     }
 }
 
@@ -31,7 +35,15 @@ impl TimestampNanosecondType {
     pub fn parse(s: &[u8]) -> Read64
         ensures { λ r. ⌜ outcome64 r ≡ column TimestampNanosecond (now (s .entry)) ⌝ }
     {
-        nanos(s)
+        let starts = calendar::year_starts();
+        TimestampNanosecondType::parse_with(&starts, s)
+    }
+
+    pub fn parse_with(starts: &[u32; 401], s: &[u8]) -> Read64
+        requires { ⌜ YearStarts (now starts) ⌝ }
+        ensures { λ r. ⌜ outcome64 r ≡ column TimestampNanosecond (now (s .entry)) ⌝ }
+    {
+        nanos(starts, s)
     }
 }
 
@@ -39,7 +51,15 @@ impl TimestampMicrosecondType {
     pub fn parse(s: &[u8]) -> Read64
         ensures { λ r. ⌜ outcome64 r ≡ column TimestampMicrosecond (now (s .entry)) ⌝ }
     {
-        units::micros(nanos(s))
+        let starts = calendar::year_starts();
+        TimestampMicrosecondType::parse_with(&starts, s)
+    }
+
+    pub fn parse_with(starts: &[u32; 401], s: &[u8]) -> Read64
+        requires { ⌜ YearStarts (now starts) ⌝ }
+        ensures { λ r. ⌜ outcome64 r ≡ column TimestampMicrosecond (now (s .entry)) ⌝ }
+    {
+        units::micros(nanos(starts, s))
     }
 }
 
@@ -47,7 +67,15 @@ impl TimestampMillisecondType {
     pub fn parse(s: &[u8]) -> Read64
         ensures { λ r. ⌜ outcome64 r ≡ column TimestampMillisecond (now (s .entry)) ⌝ }
     {
-        units::millis(nanos(s))
+        let starts = calendar::year_starts();
+        TimestampMillisecondType::parse_with(&starts, s)
+    }
+
+    pub fn parse_with(starts: &[u32; 401], s: &[u8]) -> Read64
+        requires { ⌜ YearStarts (now starts) ⌝ }
+        ensures { λ r. ⌜ outcome64 r ≡ column TimestampMillisecond (now (s .entry)) ⌝ }
+    {
+        units::millis(nanos(starts, s))
     }
 }
 
@@ -55,6 +83,14 @@ impl TimestampSecondType {
     pub fn parse(s: &[u8]) -> Read64
         ensures { λ r. ⌜ outcome64 r ≡ column TimestampSecond (now (s .entry)) ⌝ }
     {
-        units::seconds(nanos(s))
+        let starts = calendar::year_starts();
+        TimestampSecondType::parse_with(&starts, s)
+    }
+
+    pub fn parse_with(starts: &[u32; 401], s: &[u8]) -> Read64
+        requires { ⌜ YearStarts (now starts) ⌝ }
+        ensures { λ r. ⌜ outcome64 r ≡ column TimestampSecond (now (s .entry)) ⌝ }
+    {
+        units::seconds(nanos(starts, s))
     }
 }

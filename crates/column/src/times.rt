@@ -10,13 +10,14 @@ use text::trim::trim_pre_and_post_whitespace;
 use time::string_to_time_nanoseconds;
 ghost use mathlib.Core.Path.{_≡_};
 ghost use mathlib.Core.Bool.{true};
+ghost use Prim.Native.Nat.{_≤_};
 ghost use Rattle.number.specs.Decimal.{integer};
 ghost use Rattle.number.specs.Widths.{int64};
 ghost use Rattle.refusal.specs.Outcome.{outcome32, outcome64};
 ghost use Rattle.text.specs.Trim.{trimmed};
 ghost use Rattle.time.specs.Answer.{timeNanos};
 ghost use Rattle.column.specs.Columns.{orElse, divided, asInteger, timeColumn, column, Time64Nanosecond, Time64Microsecond, Time32Millisecond, Time32Second};
-ghost use Rattle.column.specs.Found.{bitsOf, Finds};
+ghost use Rattle.column.specs.Found.{bitsOf, foundIs, Finds};
 
 pub struct Time64NanosecondType {}
 
@@ -26,13 +27,13 @@ pub struct Time32MillisecondType {}
 
 pub struct Time32SecondType {}
 
-// A time; failing that, an integer; failing that, a time once trimmed. One function for each width, so that the compiler lays each into
-// its columns and the text is not copied on the way.
+// A time; failing that, an integer; failing that, a time once trimmed. One function for each width: what two call stays a call, so
+// `integer_or_trimmed` is not laid into these, they are laid into the columns, and the text is not copied on the way.
 fn found_i64(s: &[u8]) -> Found
     ensures { λ r. ⌜ Finds r (λ k. timeColumn k 64 (now (s .entry))) ⌝ }
 {
     match string_to_time_nanoseconds(s) {
-        Read64::Value(n) => Found::Time(Read64::Value(n)),
+        Read64::Value(nanos) => Found::Time(nanos),
         Read64::Refused(_) => integer_or_trimmed(s, true),
     }
 }
@@ -41,7 +42,7 @@ fn found_i32(s: &[u8]) -> Found
     ensures { λ r. ⌜ Finds r (λ k. timeColumn k 32 (now (s .entry))) ⌝ }
 {
     match string_to_time_nanoseconds(s) {
-        Read64::Value(n) => Found::Time(Read64::Value(n)),
+        Read64::Value(nanos) => Found::Time(nanos),
         Read64::Refused(_) => integer_or_trimmed(s, false),
     }
 }
@@ -51,7 +52,16 @@ fn integer_or_trimmed(s: &[u8], wide: bool) -> Found
 {
     match parse_integer(s, wide) {
         Int64::Some(z) => Found::Integer(z),
-        Int64::None => Found::Time(string_to_time_nanoseconds(trim_pre_and_post_whitespace(s))),
+        Int64::None => time_or_refusal(trim_pre_and_post_whitespace(s)),
+    }
+}
+
+fn time_or_refusal(s: &[u8]) -> Found
+    ensures { λ r. ⌜ Finds r (λ k. divided k (timeNanos (now (s .entry)))) ⌝ }
+{
+    match string_to_time_nanoseconds(s) {
+        Read64::Value(nanos) => Found::Time(nanos),
+        Read64::Refused(why) => Found::Refused(why),
     }
 }
 
@@ -67,14 +77,23 @@ fn parse_integer(s: &[u8], wide: bool) -> Int64
     }
 }
 
+// A time in the column's unit of so many nanoseconds, or an integer as it is.
+fn in_unit(found: Found, unit: u32) -> Read64
+    requires { ⌜ 1 ≤ unit ⌝ }
+    ensures { λ r. ⌜ outcome64 r ≡ foundIs unit found ⌝ }
+{
+    match found {
+        Found::Time(nanos) => Read64::Value(nanos / unit as i64),
+        Found::Integer(z) => Read64::Value(z),
+        Found::Refused(why) => Read64::Refused(why),
+    }
+}
+
 impl Time64NanosecondType {
     pub fn parse(s: &[u8]) -> Read64
         ensures { λ r. ⌜ outcome64 r ≡ column Time64Nanosecond (now (s .entry)) ⌝ }
     {
-        match found_i64(s) {
-            Found::Time(nanos) => nanos,
-            Found::Integer(z) => Read64::Value(z),
-        }
+        in_unit(found_i64(s), 1)
     }
 }
 
@@ -82,10 +101,7 @@ impl Time64MicrosecondType {
     pub fn parse(s: &[u8]) -> Read64
         ensures { λ r. ⌜ outcome64 r ≡ column Time64Microsecond (now (s .entry)) ⌝ }
     {
-        match found_i64(s) {
-            Found::Time(nanos) => units::micros(nanos),
-            Found::Integer(z) => Read64::Value(z),
-        }
+        in_unit(found_i64(s), 1_000)
     }
 }
 
@@ -93,10 +109,7 @@ impl Time32MillisecondType {
     pub fn parse(s: &[u8]) -> Read32
         ensures { λ r. ⌜ outcome32 r ≡ column Time32Millisecond (now (s .entry)) ⌝ }
     {
-        match found_i32(s) {
-            Found::Time(nanos) => units::narrowed(units::millis(nanos)),
-            Found::Integer(z) => units::narrowed(Read64::Value(z)),
-        }
+        units::narrowed(in_unit(found_i32(s), 1_000_000))
     }
 }
 
@@ -104,9 +117,6 @@ impl Time32SecondType {
     pub fn parse(s: &[u8]) -> Read32
         ensures { λ r. ⌜ outcome32 r ≡ column Time32Second (now (s .entry)) ⌝ }
     {
-        match found_i32(s) {
-            Found::Time(nanos) => units::narrowed(units::seconds(nanos)),
-            Found::Integer(z) => units::narrowed(Read64::Value(z)),
-        }
+        units::narrowed(in_unit(found_i32(s), 1_000_000_000))
     }
 }

@@ -5,7 +5,7 @@ use refusal::Read64;
 ghost use mathlib.Core.Path.{_≡_};
 ghost use Rattle.refusal.specs.Outcome.{outcome32, outcome64};
 ghost use Rattle.column.specs.Columns.{divided};
-ghost use Rattle.column.specs.Found.{Fits32};
+ghost use Rattle.column.specs.Found.{Fits};
 
 pub fn micros(nanos: Read64) -> Read64
     ensures { λ r. ⌜ outcome64 r ≡ divided 1000 (outcome64 nanos) ⌝ }
@@ -35,7 +35,7 @@ pub fn seconds(nanos: Read64) -> Read64
 }
 
 pub fn narrowed(wide: Read64) -> Read32
-    requires { ⌜ Fits32 (outcome64 wide) ⌝ }
+    requires { ⌜ Fits 32 (outcome64 wide) ⌝ }
     ensures { λ r. ⌜ outcome32 r ≡ outcome64 wide ⌝ }
 {
     match wide {

@@ -11,17 +11,19 @@ use native.Mathlib.Omega.{arith}
 use lib.Dec.{eqb}
 use lib.ListN.{length, getD, take, drop, length-append, take-append-drop}
 use lib.Seq.{take-append-seam, drop-append-seam, drop-append-add, length-take-le}
-use borrow.Author.Tests.{eqb-false, ne-eqb}
+use borrow.Author.Tests.{ne-eqb}
 use Rattle.text.specs.Digits.{isDigit}
 use Rattle.text.specs.Utf8.{Utf8, nothing, utf8}
 use Rattle.text.specs.WhiteSpace.{White, whiteLen}
-use Rattle.text.proofs.Bools.{by-test, within-under, within-over}
+use Rattle.text.proofs.Bools.{within-under, within-over}
 use Rattle.text.proofs.Utf8Agrees as Utf8Agrees
 use Rattle.text.proofs.WhiteAgrees.{found, measures}
-use Rattle.component.specs.Units.{isUnit}
-use Rattle.component.specs.Grammar.{Amount, Component, component, Complete, glued, apart, Divides, bare, last, more}
-use Rattle.component.specs.Division.{amountLen, wordLen, Step, bad, stop, go, endStep, unitStep, restStep, amountStep, step, before, then, divideBy, divide}
-use Rattle.component.proofs.Words.{lead, white-some, white-utf8, unit-letters, letters-utf8, Ends, at-end, at-white, unit-first, unit-not-white, word-run}
+use Rattle.unit.specs.Units.{isUnit, wordLen}
+use Rattle.component.specs.Grammar.{Value, Amount, Component, component, Complete, glued, apart, Divides, bare, last, more}
+use Rattle.component.specs.Division.{amountLen, Step, bad, stop, go, endStep, unitStep, restStep, amountStep, step, before, then, divideBy, divide}
+use Rattle.text.proofs.Characters.{lead, white-some, white-utf8}
+use Rattle.unit.proofs.Spelling.{unit-letters, letters-utf8, Ends, at-end, at-white, unit-first, unit-not-white, word-run}
+use Rattle.unit.proofs.WordLaws.{Halts, word-is}
 use Rattle.component.proofs.AmountLaws.{Breaks, nothing-breaks, amount-run, amount-some, amount-utf8, Got, amount-is}
 
 -- ---- white space and unit words end an amount
@@ -73,7 +75,7 @@ apart-read a k {w} u x W e h =
     rest-cons a k (w ++ (u ++ x)) (omega (arith, length-append w (u ++ x), white-some W)) ∙
     rw (measures W (u ++ x), drop-append-seam w (u ++ x), ne-eqb (length w) 0 (λ q. omega (arith, white-some W))) (unit-read a (k + length w) u x e h true)
 
-amount-read : {n : ℕ} (a y : List ℕ) → Amount n a → Breaks y → step n (a ++ y) ≡ restStep a (length a) y
+amount-read : {n : ℕ} (a y : List ℕ) {v : Value} → Amount n a v → Breaks y → step n (a ++ y) ≡ restStep a (length a) y
 unfolding step amountStep
 amount-read [] y A h = absurd (omega (arith, amount-some A))
 amount-read (b ∷ a) y A h = rw (amount-run A y h, take-append-seam (b ∷ a) y, drop-append-seam (b ∷ a) y)
@@ -84,7 +86,7 @@ complete-read x (glued {a} {u} A e) h =
 complete-read x (apart {a} {w} {u} A W e) h =
     rw (append-assoc a (w ++ u) x, append-assoc w u x, amount-read a (w ++ (u ++ x)) A (white-breaks W (u ++ x)), apart-read a (length a) u x W e h, length-append a (w ++ u), length-append w u, add-assoc)
 
-bare-step : {n : ℕ} (a : List ℕ) → Amount n a → step n a ≡ stop (component a false none)
+bare-step : {n : ℕ} (a : List ℕ) {v : Value} → Amount n a v → step n a ≡ stop (component a false none)
 unfolding restStep
 bare-step a A = rw append-nil at (amount-read a [] A nothing-breaks)
 
@@ -116,22 +118,6 @@ pub data StepIs (n : ℕ) : List ℕ → Step → Type 0 where
   is-stop : {t : List ℕ} {c : Component} → Divides n t (c ∷ []) → StepIs n t (stop c)
   is-go : {t : List ℕ} {c : Component} {k : ℕ} (u w r : List ℕ) → Complete n u c → White w → t ≡ u ++ (w ++ r) → k ≡ length u + length w → StepIs n t (go c k)
 
--- a text that is empty or begins with white space
-unfoldable Halts : List ℕ → Type 0
-Halts [] = Unit
-Halts (b ∷ x) = whiteLen (b ∷ x) ≡ 0 → ⊥
-
-word-is : (t : List ℕ) → Halts (drop (wordLen t) t) × (wordLen t ≤ length t)
-unfolding Halts wordLen
-word-is [] = (tt, omega arith)
-word-is (b ∷ t) =
-    by-test (eqb (whiteLen (b ∷ t)) 0)
-    (λ e. rw e (word-is t .0, omega (arith, word-is t .1)))
-    (λ e. rw e (eqb-false (whiteLen (b ∷ t)) 0 e, omega arith))
-
-pub word-inside : (t : List ℕ) → wordLen t ≤ length t
-word-inside t = word-is t .1
-
 module _ {n : ℕ} where
   end-sound : (c : Component) (u x : List ℕ) (f : Bool) → (f ≡ true → Complete n u c) → Halts x → StepIs n (u ++ x) (endStep f c (length u) x)
   unfolding Halts endStep
@@ -151,17 +137,17 @@ module _ {n : ℕ} where
       rw (append-assoc, take-append-drop (wordLen r) r, length-append, length-take-le (wordLen r) r (word-is r .1))
       at (end-sound (component a s (some (take (wordLen r) r))) (p ++ take (wordLen r) r) (drop (wordLen r) r) (isUnit (take (wordLen r) r)) (C (take (wordLen r) r)) (word-is r .0))
 
-  glued-sound : (a : List ℕ) (b : ℕ) (r : List ℕ) → Amount n a → whiteLen (b ∷ r) ≡ 0 → StepIs n (a ++ (b ∷ r)) (restStep a (length a) (b ∷ r))
+  glued-sound : (a : List ℕ) (b : ℕ) (r : List ℕ) {v : Value} → Amount n a v → whiteLen (b ∷ r) ≡ 0 → StepIs n (a ++ (b ∷ r)) (restStep a (length a) (b ∷ r))
   unfolding restStep
   glued-sound a b r A e = rw (e, add-zero) (unit-sound a false a (b ∷ r) (λ u U. glued A U))
 
-  apart-sound : (a l : List ℕ) (k : ℕ) → Amount n a → White (take k l) → k ≤ length l → StepIs n (a ++ l) (unitStep a (not (eqb k 0)) (length a + k) (drop k l))
+  apart-sound : (a l : List ℕ) (k : ℕ) {v : Value} → Amount n a v → White (take k l) → k ≤ length l → StepIs n (a ++ l) (unitStep a (not (eqb k 0)) (length a + k) (drop k l))
   apart-sound a l k A W h =
       rw (ne-eqb k 0 (λ e. omega (arith, length-take-le k l h, white-some W)))
       (rw (append-assoc, take-append-drop k l, length-append, length-take-le k l h)
       at (unit-sound a true (a ++ take k l) (drop k l) (λ u U. rw append-assoc (apart A W U))))
 
-  rest-sound : (a r : List ℕ) → Amount n a → StepIs n (a ++ r) (restStep a (length a) r)
+  rest-sound : (a r : List ℕ) {v : Value} → Amount n a v → StepIs n (a ++ r) (restStep a (length a) r)
   unfolding restStep
   rest-sound a [] A = rw append-nil (is-stop (bare A))
   rest-sound a (b ∷ r) A =
@@ -172,7 +158,7 @@ module _ {n : ℕ} where
   amount-sound t zero g = is-bad
   amount-sound t (suc k) (inl e) = absurd (omega arith)
   amount-sound t (suc k) (inr g) =
-      rw (take-append-drop (suc k) t, length-take-le (suc k) t (g .1)) at (rest-sound (take (suc k) t) (drop (suc k) t) (g .0))
+      rw (take-append-drop (suc k) t, length-take-le (suc k) t (g .2)) at (rest-sound (take (suc k) t) (drop (suc k) t) (g .1))
 
   pub step-sound : (t : List ℕ) → StepIs n t (step n t)
   unfolding step

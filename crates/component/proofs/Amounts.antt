@@ -4,12 +4,12 @@ use mathlib.Core.Bool.{Bool, true, false, cond}
 use mathlib.Core.List.{List, [], _∷_}
 use mathlib.Core.Option.{none, some, Option·none-ne-some}
 use Prim.Native.Nat.{ℕ, zero, suc, _+_, _-_, _*_, _^_, _≤_, _<_, min}
-use native.Mathlib.Nat.{add-zero, mul-assoc, mul-le-mul-right, mul-lt-mul-of-pos-right, le-mul-of-pos-right, one-le-pow, pow-succ'}
+use native.Mathlib.Nat.{add-zero, mul-lt-mul-of-pos-right, le-mul-of-pos-right}
 use native.Mathlib.Numerals.{add-one}
 use native.Mathlib.Omega.{arith}
 use lib.Dec.{eqb, ltb}
 use lib.Pow.{pow-add}
-use lib.IntN.{ℤ, pos, negℤ, natAbs, _-ℤ_}
+use lib.IntN.{ℤ, pos, negℤ, _-ℤ_}
 use lib.ListN.{length, getD, take, drop, List·getD-eq-default}
 use lib.Seq.{getD-drop, drop-drop, drop-cons, length-take-le}
 use lib.Signed.{mag}
@@ -17,20 +17,19 @@ use mir.Syntax.{w64}
 use mir.Val.{SFits, toZ}
 use mir.Facts.{toZ-ofZ, toZ-pos}
 use borrow.Author.Tests.{eqb-true, eq-eqb, ne-eqb, lt-ltb, le-ltb, ltb-true, ltb-false}
-use Rattle.text.specs.Digits.{isDigit, worth, digitOf, digits, value, run, within}
-use Rattle.text.proofs.Bools.{and-left, and-right, by-test, both-ways, within-is, within-yes, within-under, within-over}
+use Rattle.text.specs.Digits.{worth, digitOf, value, run, within}
+use Rattle.text.proofs.Bools.{by-test, both-ways, within-yes, within-under, within-over}
+use Rattle.text.proofs.Values.{ten-pos, value-below}
 use Rattle.text.proofs.DigitLaws.{is-worth, run-on, run-off, run-end}
 use Rattle.number.specs.Widths.{inSigned, signed, fit}
 use Rattle.number.proofs.Zed.{P-neg, N-neg, sub-ℤ, eq-of, fits-of}
 use Rattle.number.proofs.Ranges.{rd}
-use Rattle.component.specs.Grammar.{precision, wholeFits}
+use Rattle.component.specs.Grammar.{precision, wholeFits, Value, Amount}
 use Rattle.component.specs.Division.{negative, signLen, amountLen}
-use Rattle.component.specs.Read.{cap, NumberIs, ReadIs, PointAt}
-use Rattle.component.specs.declared.Number.{Number}
-use Rattle.component.proofs.AmountLaws.{run-is, behind, wholeValue, afterDigits, afterPoint, unfit-len, whole-len, point-len, whole-value, point-value}
-
-pub ten-pos : (n : ℕ) → 0 < 10 ^ n
-ten-pos n = one-le-pow n 10 (omega arith)
+use Rattle.component.specs.Amount.{amountOf}
+use Rattle.component.specs.Found.{cap, NumberIs, ReadIs, PointAt}
+use Rattle.component.specs.declared.amount.Number.{Number}
+use Rattle.component.proofs.AmountLaws.{run-is, measured, behind, wholeValue, afterDigits, afterPoint, unfit-len, whole-len, point-len, whole-value, point-value}
 
 -- ---- the number of digits, as far as the cap
 
@@ -63,16 +62,6 @@ module _ (s : List ℕ) (i v : ℕ) where
     number-more g =
         let l : take (run (drop i s)) (drop i s) ≡ getD s i 0 ∷ take (run (drop (i + 1) s)) (drop (i + 1) s) = rw (run-on s i d h f e g, add-one, drop-cons s i 0 h) in
         rw (l, is-worth (getD s i 0) d f e g) (sym (cap-value (take (run (drop (i + 1) s)) (drop (i + 1) s)) (v * 10 + worth (getD s i 0))))
-
--- k digits write a number below 10^k
-digits-below : (w : List ℕ) (a : ℕ) → digits w ≡ true → value a w < (a + 1) * 10 ^ length w
-unfolding digits value
-digits-below [] a D = omega arith
-digits-below (b ∷ w) a D =
-    let r = within-is 0x30 b 0x39 (and-left (isDigit b) (digits w) D) in
-    let m : (a * 10 + worth b + 1) * 10 ^ length w ≤ ((a + 1) * 10) * 10 ^ length w = mul-le-mul-right (10 ^ length w) (omega arith) in
-    rw (pow-succ' 10 (length w), ← mul-assoc (a + 1) 10 (10 ^ length w))
-    (omega (arith, digits-below w (a * 10 + worth b) (and-right (isDigit b) (digits w) D)))
 
 -- p is none of 1 to n
 unfoldable pub NoneUpTo : ℕ → ℕ → Type 0
@@ -127,14 +116,9 @@ module _ (neg : Bool) (v : ℕ) {m : ℕ} (e : m ≡ min v cap) where
 
 -- ---- the amount at a place: its sign ends at from
 
-signed-none : (neg : Bool) → signed neg 0 ≡ pos 0
-signed-none true = refl
-signed-none false = refl
-
-pub abs-signed : (neg : Bool) (m : ℕ) → natAbs (signed neg m) ≡ m
-abs-signed true zero = refl
-abs-signed true (suc m) = refl
-abs-signed false m = refl
+-- what is measured, k bytes, has the value v that is computed
+read-as : (t : List ℕ) (k : ℕ) {v : Value} → 0 < k → k ≡ amountLen precision t → amountOf precision (take k t) ≡ v → Amount precision (take k t) v
+read-as t k h K e = rw (← e, K) (measured precision t (omega arith))
 
 -- a byte that is not 0 stands in the text
 at-byte : (s : List ℕ) (i : ℕ) → 0 < getD s i 0 → i + 1 ≤ length s
@@ -192,7 +176,7 @@ module _ (s : List ℕ) (at from : ℕ) (neg : Bool) (N : neg ≡ negative (drop
       pub no-amount : next ≡ from → amountLen precision (drop at s) ≡ 0
       no-amount e = let z : run (drop from s) ≡ 0 = omega arith in bare-len ∙ rw z
 
-      pub bare : (next ≡ from → ⊥) → next ≤ length s → {z : ℤ} → z ≡ signed neg wv → ReadIs s at (record { integer = z; frac = pos 0 }) next
+      pub bare : (next ≡ from → ⊥) → next ≤ length s → {z : ℤ} → z ≡ signed neg wv → ReadIs precision s at (record { integer = z; frac = pos 0 }) next
       bare e i Z =
           let l : amountLen precision (drop at s) ≡ signLen neg + run (drop from s) = bare-len ∙ rw (lt-ltb 0 (run (drop from s)) (omega (arith, e))) in
           let k : next - at ≡ signLen (negative (drop at s)) + run (behind (drop at s)) = rw (behind-is, ← N) (omega arith) in
@@ -200,8 +184,7 @@ module _ (s : List ℕ) (at from : ℕ) (neg : Bool) (N : neg ≡ negative (drop
             further = omega (arith, e);
             inside = i;
             end-is = omega arith;
-            says = rw (k, whole-value precision (drop at s), behind-is, ← N, signed-none neg, Z);
-            small = omega arith;
+            says = read-as (drop at s) (next - at) (omega (arith, e)) (omega arith) (rw (k, whole-value precision (drop at s), behind-is, ← N, Z));
           }
 
     -- a point does
@@ -240,8 +223,7 @@ module _ (s : List ℕ) (at from : ℕ) (neg : Bool) (N : neg ≡ negative (drop
     scaled-below l =
         let R = run-is (drop p s) in
         let k = length-take-le (run (drop p s)) (drop p s) (R .1) in
-        let b : fv < (0 + 1) * 10 ^ run (drop p s) = rw k at (digits-below (take (run (drop p s)) (drop p s)) 0 (R .0)) in
-        let q : fv < 10 ^ run (drop p s) = omega arith in
+        let q : fv < 10 ^ run (drop p s) = rw k at (value-below (take (run (drop p s)) (drop p s)) (R .0)) in
         let e : run (drop p s) + (precision - run (drop p s)) ≡ precision = omega arith in
         let f : 10 ^ run (drop p s) * 10 ^ (precision - run (drop p s)) ≡ 10 ^ precision = sym (pow-add 10 (run (drop p s)) (precision - run (drop p s))) ∙ rw e in
         let u = ten-pos (precision - run (drop p s)) in
@@ -268,7 +250,7 @@ module _ (s : List ℕ) (at from : ℕ) (neg : Bool) (N : neg ≡ negative (drop
         below-behind : d .value * k < 10 ^ precision
         below-behind = rw size-is (scaled-below (omega (arith, places-is)) .1)
 
-        pointed-behind : (d .next - p ≡ 0 → ⊥) → {z f : ℤ} → z ≡ signed neg wv → f ≡ signed neg (d .value * k) → ReadIs s at (record { integer = z; frac = f }) (d .next)
+        pointed-behind : (d .next - p ≡ 0 → ⊥) → {z f : ℤ} → z ≡ signed neg wv → f ≡ signed neg (d .value * k) → ReadIs precision s at (record { integer = z; frac = f }) (d .next)
         pointed-behind n {z} {f} Z E =
             let g : 0 < run (drop p s) = omega (arith, places-is, n) in
             let r : amountLen precision (drop at s) ≡ signLen neg + (run (drop from s) + suc (run (drop p s))) = pointed-len ∙ rw (within-yes 1 (run (drop p s)) precision g (omega (arith, places-is))) in
@@ -277,8 +259,7 @@ module _ (s : List ℕ) (at from : ℕ) (neg : Bool) (N : neg ≡ negative (drop
               further = omega (arith, D .next-is);
               inside = D .inside;
               end-is = omega (arith, D .next-is);
-              says = rw (j, point-value precision (drop at s) point-here, after-point-is, behind-is, ← N, Z, E, size-is);
-              small = rw (E, abs-signed neg (d .value * k)) below-behind;
+              says = read-as (drop at s) (d .next - at) (omega (arith, D .next-is)) (omega (arith, D .next-is)) (rw (j, point-value precision (drop at s) point-here, after-point-is, behind-is, ← N, Z, E, size-is));
             }
 
 -- the same of a text that is read up to a point, where d is the number of the digits behind it
@@ -296,7 +277,7 @@ module _ {s : List ℕ} {at p : ℕ} {neg : Bool} {z : ℤ} (Q : PointAt s at p 
     pub size-below : d .value * k < 10 ^ precision
     size-below = below-behind s at (at + signLen neg) neg (Q .sign-is) refl (Q .fitting) p place-is (Q .point) d D l k K
 
-    pub pointed : (d .next - p ≡ 0 → ⊥) → {y f : ℤ} → y ≡ z → f ≡ signed neg (d .value * k) → ReadIs s at (record { integer = y; frac = f }) (d .next)
+    pub pointed : (d .next - p ≡ 0 → ⊥) → {y f : ℤ} → y ≡ z → f ≡ signed neg (d .value * k) → ReadIs precision s at (record { integer = y; frac = f }) (d .next)
     pointed n e f = pointed-behind s at (at + signLen neg) neg (Q .sign-is) refl (Q .fitting) p place-is (Q .point) d D l k K n (e ∙ Q .integer-is) f
 
 -- ---- a size with its sign, as the machine has it

@@ -10,7 +10,7 @@ use lib.ListN.{length, getD, take, drop}
 use Rattle.text.specs.Digits.{within, value, run}
 use Rattle.text.specs.WhiteSpace.{whiteLen}
 use Rattle.component.specs.Grammar.{wholeFits, Component, component}
-use Rattle.component.specs.Units.{isUnit}
+use Rattle.unit.specs.Units.{isUnit, wordLen}
 
 -- the text begins with a minus
 unfoldable pub negative : List ℕ → Bool
@@ -36,11 +36,6 @@ digitsLen n neg t = pointLen n (signLen neg) (run t) (wholeFits neg (value 0 (ta
 -- the length of the amount that a text begins with, 0 for none
 unfoldable pub amountLen : ℕ → List ℕ → ℕ
 amountLen n t = digitsLen n (negative t) (drop (signLen (negative t)) t)
-
--- how many bytes stand before the first white space character
-unfoldable pub wordLen : List ℕ → ℕ
-wordLen [] = 0
-wordLen (b ∷ t) = cond (eqb (whiteLen (b ∷ t)) 0) (suc (wordLen t)) 0
 
 -- what a text begins with: no component, a component that ends it, or a component and white space of so many bytes together
 pub data Step : Type 0 where

@@ -7,13 +7,14 @@ use mathlib.Core.Path.{_≡_}
 use mathlib.Core.Bool.{Bool, true, false}
 use mathlib.Core.List.{List, [], _∷_, _++_}
 use mathlib.Core.Option.{Option, none, some}
-use Prim.Native.Nat.{ℕ, _≤_}
+use Prim.Native.Nat.{ℕ, _-_, _*_, _^_, _≤_}
+use lib.IntN.{ℤ, pos}
 use lib.ListN.{length}
 use Rattle.text.specs.Digits.{value}
 use Rattle.text.specs.WhiteSpace.{White}
 use Rattle.number.specs.Decimal.{Digits}
 use Rattle.number.specs.Widths.{inSigned, signed}
-use Rattle.component.specs.Units.{isUnit}
+use Rattle.unit.specs.Units.{isUnit}
 
 -- document 01's limit, the Rust's INTERVAL_PRECISION
 abbrev pub precision : ℕ
@@ -38,11 +39,28 @@ pub record Fraction (n : ℕ) (f : List ℕ) : Type 0 where
   pub written : Digits f
   pub most : length f ≤ n
 
--- "optional minus, then digits .., optionally a point and 1 to n digits; or optional minus, point, 1 to n digits"
-pub data Amount (n : ℕ) : List ℕ → Type 0 where
-  whole : {s d : List ℕ} {neg : Bool} → Sign s neg → Whole neg d → Amount n (s ++ d)
-  decimal : {s d f : List ℕ} {neg : Bool} → Sign s neg → Whole neg d → Fraction n f → Amount n (s ++ (d ++ (0x2E ∷ f)))
-  fraction : {s f : List ℕ} {neg : Bool} → Sign s neg → Fraction n f → Amount n (s ++ (0x2E ∷ f))
+-- what an amount says: its whole part, and its fraction times 10^n; "whole part and fraction both carry the sign"
+pub record Value : Type 0 where
+  pub integer : ℤ
+  pub frac : ℤ
+
+-- one of them
+abbrev pub valued : ℤ → ℤ → Value
+valued i f = record { integer = i; frac = f }
+
+-- k digits behind a point as a fraction times 10^n: their number times 10^(n - k)
+unfoldable pub scaled : ℕ → List ℕ → ℕ
+scaled n f = value 0 f * 10 ^ (n - length f)
+
+-- an amount and its value: "optional minus, then digits .., optionally a point and 1 to n digits; or optional minus, point, 1 to n digits"
+pub data Amount (n : ℕ) : List ℕ → Value → Type 0 where
+  -- digits alone: no fraction
+  whole : {s d : List ℕ} {neg : Bool} → Sign s neg → Whole neg d → Amount n (s ++ d) (valued (signed neg (value 0 d)) (pos 0))
+  -- digits, a point and digits: "a minus covers the fraction even over a zero .. whole part"
+  decimal : {s d f : List ℕ} {neg : Bool} → Sign s neg → Whole neg d → Fraction n f
+      → Amount n (s ++ (d ++ (0x2E ∷ f))) (valued (signed neg (value 0 d)) (signed neg (scaled n f)))
+  -- a point and digits: ".. or absent whole part"
+  fraction : {s f : List ℕ} {neg : Bool} → Sign s neg → Fraction n f → Amount n (s ++ (0x2E ∷ f)) (valued (pos 0) (signed neg (scaled n f)))
 
 -- "a component holds its amount, whether whitespace follows the amount, and its unit word or none"
 pub record Component : Type 0 where
@@ -56,14 +74,14 @@ component a s u = record { amount = a; spaced = s; unit = u }
 
 -- a text that is one component with its unit: "amount and unit glued, or amount, one whitespace character, unit"
 pub data Complete (n : ℕ) : List ℕ → Component → Type 0 where
-  glued : {a u : List ℕ} → Amount n a → isUnit u ≡ true → Complete n (a ++ u) (component a false (some u))
-  apart : {a w u : List ℕ} → Amount n a → White w → isUnit u ≡ true → Complete n (a ++ (w ++ u)) (component a true (some u))
+  glued : {a u : List ℕ} {v : Value} → Amount n a v → isUnit u ≡ true → Complete n (a ++ u) (component a false (some u))
+  apart : {a w u : List ℕ} {v : Value} → Amount n a v → White w → isUnit u ≡ true → Complete n (a ++ (w ++ u)) (component a true (some u))
 
 -- a text and its division: "one or more components, parted by one whitespace character", of which "only the last may lack its unit, and
 -- then no whitespace follows its amount"
 pub data Divides (n : ℕ) : List ℕ → List Component → Type 0 where
   -- an amount alone
-  bare : {a : List ℕ} → Amount n a → Divides n a (component a false none ∷ [])
+  bare : {a : List ℕ} {v : Value} → Amount n a v → Divides n a (component a false none ∷ [])
   -- a component with its unit, and nothing behind it
   last : {t : List ℕ} {c : Component} → Complete n t c → Divides n t (c ∷ [])
   -- a component with its unit, white space, and what is divided further

@@ -1,7 +1,8 @@
--- What the contracts of `component` cite.
-pub mod Units
+-- What the contracts of `component` cite. A reviewer must believe the grammar and its division, what a component says, and what the answer
+-- of `component` says of both.
 pub mod Grammar
 pub mod Division
 pub mod Amount
-pub mod Keys
 pub mod Read
+-- What only names the finds of private functions: digits, a point, an amount.
+pub mod Found

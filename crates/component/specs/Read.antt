@@ -1,100 +1,69 @@
--- What the answers of `component` say, and what its functions over a text and a place find there. Assumes nothing.
+-- What the answer of `component` says: the component at a place of a text, and where a reader goes on from there. The limit n is the most
+-- digits behind a point. Assumes nothing.
 use mathlib.Core.Path.{_≡_}
-use mathlib.Core.Bool.{Bool, true, cond}
+use mathlib.Core.Bool.{Bool}
 use mathlib.Core.List.{List}
-use mathlib.Core.Option.{Option, none, some}
-use Prim.Native.Nat.{ℕ, _+_, _-_, _^_, _≤_, _<_, min}
-use lib.Dec.{eqb, leb}
+use mathlib.Core.Option.{Option, some}
+use Prim.Native.Nat.{ℕ, _-_, _^_, _≤_, _<_}
 use lib.IntN.{ℤ, natAbs}
-use lib.ListN.{length, getD, take, drop}
-use Rattle.text.specs.Digits.{value, run}
-use Rattle.text.specs.WhiteSpace.{whiteLen}
+use lib.ListN.{length, drop}
 use Rattle.number.specs.Widths.{signed}
-use Rattle.component.specs.Grammar.{precision, wholeFits, Component}
-use Rattle.component.specs.Division.{negative, signLen, amountLen, bad, stop, go, step}
-use Rattle.component.specs.Amount.{Value, amountOf, orElse, unitFor}
-use Rattle.component.specs.declared.AmountRead.{AmountRead}
-use Rattle.component.specs.declared.AmountRead.the-variants.{Read as ReadAmount, Bad as NoAmount}
+use Rattle.unit.specs.Units.{orElse}
+use Rattle.unit.specs.Read.{unitRead}
+use Rattle.component.specs.Grammar.{Value, valued, Amount, Component}
+use Rattle.component.specs.Division.{bad, stop, go, step}
+use Rattle.component.specs.Amount.{unitFor}
 use Rattle.component.specs.declared.IntervalAmount.{IntervalAmount}
-use Rattle.component.specs.declared.IntervalUnit.{IntervalUnit}
-use Rattle.component.specs.declared.Number.{Number}
+use Rattle.unit.specs.declared.IntervalUnit.{IntervalUnit}
 use Rattle.component.specs.declared.Piece.{Piece}
 use Rattle.component.specs.declared.Piece.the-variants.{Bad, Last, More}
-use Rattle.component.specs.declared.UnitRead.{UnitRead}
-use Rattle.component.specs.declared.UnitRead.the-variants.{Unit as UnitOf, None as NoUnit}
+use Rattle.component.specs.declared.Taken.{Taken}
 
--- the unit that was read, or none
-abbrev pub unitRead : UnitRead → Option IntervalUnit
-unitRead (UnitOf u) = some u
-unitRead NoUnit = none
+-- the value of an amount as the code holds it
+abbrev pub valueOf : IntervalAmount → Value
+valueOf a = valued (a .integer) (a .frac)
 
--- ---- amounts
-
--- an amount as the code holds it: whole part and fraction both carry the sign
-abbrev pub amountFrom : Value → IntervalAmount
-amountFrom v = record { integer = signed (v .neg) (v .integer); frac = signed (v .neg) (v .frac) }
-
--- one more than the size of the least number of 64 signed bits
-abbrev pub cap : ℕ
-cap = 9_223_372_036_854_775_809
-
--- the digits of s from a place on: their number, or the cap where it is more, and where they end
-pub record NumberIs (s : List ℕ) (from : ℕ) (r : Number) : Type 0 where
-  pub value-is : r .value ≡ min (value 0 (take (run (drop from s)) (drop from s))) cap
-  pub next-is : r .next ≡ from + run (drop from s)
-  pub inside : r .next ≤ length s
-
--- an amount of s from at to end, and the value that it holds
-pub record ReadIs (s : List ℕ) (at : ℕ) (a : IntervalAmount) (end : ℕ) : Type 0 where
-  pub further : at < end
-  pub inside : end ≤ length s
-  pub end-is : end ≡ at + amountLen precision (drop at s)
-  pub says : a ≡ amountFrom (amountOf precision (take (end - at) (drop at s)))
-  pub small : natAbs (a .frac) < 10 ^ precision
-
--- what stands at a place: an amount, or none
-unfoldable pub amountIs : List ℕ → ℕ → AmountRead → Type 0
-amountIs s at (ReadAmount a end) = ReadIs s at a end
-amountIs s at NoAmount = amountLen precision (drop at s) ≡ 0
-
--- a sign and digits whose number is a whole part stand from at on, and a point before the place from
-pub record PointAt (s : List ℕ) (at from : ℕ) (neg : Bool) (integer : ℤ) : Type 0 where
-  pub sign-is : neg ≡ negative (drop at s)
-  pub place : from ≡ at + (signLen neg + (run (drop (at + signLen neg) s) + 1))
-  pub inside : from ≤ length s
-  pub point : getD s (from - 1) 0 ≡ 0x2E
-  pub integer-is : integer ≡ signed neg (value 0 (take (run (drop (at + signLen neg) s)) (drop (at + signLen neg) s)))
-  pub fitting : wholeFits neg (value 0 (take (run (drop (at + signLen neg) s)) (drop (at + signLen neg) s))) ≡ true
-
--- ---- components
-
--- an amount with its unit, which ends at a place
-unfoldable pub endPiece : List ℕ → IntervalAmount → IntervalUnit → ℕ → Piece
-endPiece s a u at =
-    cond (leb (length s) at) (Last a (UnitOf u)) (cond (eqb (whiteLen (drop at s)) 0) Bad (More a u (at + whiteLen (drop at s))))
+-- two numbers, none of them with a sign opposite to the other's
+pub record SameSign (i f : ℤ) : Type 0 where
+  pub neg : Bool
+  pub whole : ℕ
+  pub part : ℕ
+  pub whole-is : i ≡ signed neg whole
+  pub part-is : f ≡ signed neg part
 
 -- a component, its amount's value and its unit, where none stands for the default
-pub record Holds (c : Component) (a : IntervalAmount) (w : Option IntervalUnit) : Type 0 where
-  pub amount-is : a ≡ amountFrom (amountOf precision (c .amount))
-  pub small : natAbs (a .frac) < 10 ^ precision
+pub record Holds (n : ℕ) (c : Component) (a : IntervalAmount) (w : Option IntervalUnit) : Type 0 where
+  pub amount-is : Amount n (c .amount) (valueOf a)
+  pub same-sign : SameSign (a .integer) (a .frac)
+  pub small : natAbs (a .frac) < 10 ^ n
   pub unit-is : (u : IntervalUnit) → unitFor u c ≡ orElse u w
 
 -- a component that ends the text
-pub record LastIs (s : List ℕ) (at : ℕ) (a : IntervalAmount) (w : Option IntervalUnit) : Type 0 where
+pub record LastIs (n : ℕ) (s : List ℕ) (at : ℕ) (a : IntervalAmount) (w : Option IntervalUnit) : Type 0 where
   pub this : Component
-  pub stepped : step precision (drop at s) ≡ stop this
-  pub holds : Holds this a w
+  pub stepped : step n (drop at s) ≡ stop this
+  pub holds : Holds n this a w
 
 -- a component before the place x
-pub record MoreIs (s : List ℕ) (at : ℕ) (a : IntervalAmount) (u : IntervalUnit) (x : ℕ) : Type 0 where
+pub record MoreIs (n : ℕ) (s : List ℕ) (at : ℕ) (a : IntervalAmount) (u : IntervalUnit) (x : ℕ) : Type 0 where
   pub this : Component
-  pub stepped : step precision (drop at s) ≡ go this (x - at)
+  pub stepped : step n (drop at s) ≡ go this (x - at)
   pub further : at < x
   pub inside : x ≤ length s
-  pub holds : Holds this a (some u)
+  pub holds : Holds n this a (some u)
 
 -- what stands at a place: no component, a last one, or one more
-unfoldable pub pieceIs : List ℕ → ℕ → Piece → Type 0
-pieceIs s at Bad = step precision (drop at s) ≡ bad
-pieceIs s at (Last a w) = LastIs s at a (unitRead w)
-pieceIs s at (More a u x) = MoreIs s at a u x
+unfoldable pub pieceIs : ℕ → List ℕ → ℕ → Piece → Type 0
+pieceIs n s at Bad = step n (drop at s) ≡ bad
+pieceIs n s at (Last a w) = LastIs n s at a (unitRead w)
+pieceIs n s at (More a u x) = MoreIs n s at a u x
+
+-- where a reader goes on from a place: it stays where there is no component, a last one ends the text, else behind the white space
+unfoldable pub placeAfter : List ℕ → ℕ → Piece → ℕ
+placeAfter s at Bad = at
+placeAfter s at (Last a w) = length s
+placeAfter s at (More a u x) = x
+
+-- what stands at a place, and where a reader goes on
+unfoldable pub takenIs : ℕ → List ℕ → ℕ → Taken → Type 0
+takenIs n s at r = pieceIs n s at (r .piece) × (r .at ≡ placeAfter s at (r .piece))

@@ -1,14 +1,24 @@
 // Amounts, as Rust's `IntervalAmount::from_str` takes them, read at a place of a text.
-use crate::AmountRead;
 use crate::IntervalAmount;
-use crate::Number;
 use number::Int64;
 ghost use mathlib.Core.Path.{_≡_};
 ghost use Prim.Native.Nat.{_+_, _-_, _*_, _^_, _≤_, _<_, min};
 ghost use lib.ListN.{length, drop};
 ghost use Rattle.component.specs.Grammar.{precision};
 ghost use Rattle.component.specs.Division.{negative, signLen};
-ghost use Rattle.component.specs.Read.{cap, NumberIs, PointAt, amountIs};
+ghost use Rattle.component.specs.Found.{cap, NumberIs, PointAt, amountIs};
+
+// Digits of a text as a number, and where they end.
+pub struct Number {
+    pub value: u64,
+    pub next: usize,
+}
+
+// The amount at a place, and where it ends; or none.
+pub enum AmountRead {
+    Read(IntervalAmount, usize),
+    Bad,
+}
 
 // One digit more, up to a number that fits with no sign.
 pub fn push(v: u64, d: u64) -> u64
@@ -67,7 +77,7 @@ pub fn scale(places: usize) -> u64
 // The amount at a place, where its point ends at `from`: one to fifteen digits, which carry the sign of the whole part.
 pub fn fraction_at(text: &[u8], at: usize, from: usize, neg: bool, integer: i64) -> AmountRead
     requires { ⌜ PointAt (now text) at from neg integer ⌝ }
-    ensures { λ r. ⌜ amountIs (now (text .entry)) at r ⌝ }
+    ensures { λ r. ⌜ amountIs precision (now (text .entry)) at r ⌝ }
 {
     let digits = number_at(text, from);
     let value = digits.value;
@@ -101,7 +111,7 @@ pub fn fraction_at(text: &[u8], at: usize, from: usize, neg: bool, integer: i64)
 // The amount at a place, where its sign ends at `from`: digits, then perhaps a point.
 pub fn unsigned_at(text: &[u8], at: usize, from: usize, neg: bool) -> AmountRead
     requires { ⌜ (neg ≡ negative (drop at (now text))) × (from ≡ at + signLen neg) × (from ≤ length (now text)) ⌝ }
-    ensures { λ r. ⌜ amountIs (now (text .entry)) at r ⌝ }
+    ensures { λ r. ⌜ amountIs precision (now (text .entry)) at r ⌝ }
 {
     let whole = number_at(text, from);
     let value = whole.value;
@@ -123,7 +133,7 @@ pub fn unsigned_at(text: &[u8], at: usize, from: usize, neg: bool) -> AmountRead
 // The amount at a place: a minus is a sign, a plus is none.
 pub fn amount_at(text: &[u8], at: usize) -> AmountRead
     requires { ⌜ at ≤ length (now text) ⌝ }
-    ensures { λ r. ⌜ amountIs (now (text .entry)) at r ⌝ }
+    ensures { λ r. ⌜ amountIs precision (now (text .entry)) at r ⌝ }
 {
     let neg = text::white::byte_at(text, at) == b'-';
     let from = if neg { at + 1 } else { at };

@@ -1,4 +1,5 @@
 -- What the proofs of several functions use.
+pub mod Listed
 mod Numbering
 mod Telling
 pub mod Readings

@@ -1,23 +1,14 @@
--- Units by their numbers: no number past the end of a list names one, and an interval is read in the unit that a number names.
--- Assumes nothing.
-use mathlib.Core.Path.{_≡_, refl, ap, _∙_}
-use mathlib.Core.List.{List, [], _∷_}
-use mathlib.Core.Option.{Option, none, some}
-use Prim.Native.Nat.{ℕ, zero, suc, _≤_}
-use native.Mathlib.Omega.{arith}
-use lib.ListN.{length}
+-- An interval is read in the unit that a number names. Assumes nothing.
+use mathlib.Core.Path.{_≡_, ap, _∙_}
+use mathlib.Core.List.{List}
+use mathlib.Core.Option.{Option, some}
+use Prim.Native.Nat.{ℕ}
 use Rattle.refusal.specs.Outcome.{Outcome}
 use Rattle.component.specs.Grammar.{precision}
-use Rattle.component.specs.declared.IntervalUnit.{IntervalUnit}
+use Rattle.unit.specs.declared.IntervalUnit.{IntervalUnit}
 use Rattle.interval.specs.Contribution.{Counts}
 use Rattle.interval.specs.Answer.{monthDayNano}
-use Rattle.cullpethi.specs.Cells.{place, inUnit}
-
-pub past : (l : List IntervalUnit) (n : ℕ) → length l ≤ n → none ≡ place l n
-unfolding place
-past [] n h = refl
-past (u ∷ l) zero h = absurd (omega (arith, h))
-past (u ∷ l) (suc n) h = past l n (omega (arith, h))
+use Rattle.cullpethi.specs.Cells.{inUnit}
 
 pub in-unit : {o : Outcome Counts} {u v : IntervalUnit} {m : Option IntervalUnit} (t : List ℕ)
     → o ≡ monthDayNano precision v t → v ≡ u → some u ≡ m → o ≡ inUnit m t

@@ -1,7 +1,7 @@
 -- Document 01's P readings, over the definitions that the contracts cite: one table of readers, texts and answers, and one theorem over
 -- it. Assumes nothing.
-use mathlib.Core.Path.{_≡_, refl}
-use mathlib.Core.List.{List, [], _∷_, map}
+use mathlib.Core.Path.{refl}
+use mathlib.Core.List.{List, [], _∷_}
 use Prim.Native.Nat.{ℕ}
 use Prim.Native.String.{String}
 use lib.IntN.{ℤ, pos, negℤ}
@@ -9,30 +9,21 @@ use Rattle.text.specs.Digits.{digits, value, run}
 use Rattle.text.specs.Quoted.{bytes}
 use Rattle.text.specs.Trim.{blanks, trimStart, trimEnd}
 use Rattle.text.specs.Utf8.{wellFormed}
+use Rattle.text.proofs.Table.{Row, row, Readings}
 use Rattle.text.specs.WhiteSpace.{white1, white2, white3, whiteOf}
 use Rattle.refusal.specs.Outcome.{Outcome, accepted, refused, andThen}
 use Rattle.calendar.specs.Calendar.{span, before as beforeMonth}
-use Rattle.timestamp.specs.Clock.{nanosFrom}
+use Rattle.clock.specs.Clock.{nanosOf}
 use Rattle.time.specs.Answer.{timeOfDay, timeNanos}
 use Rattle.date.specs.Answer.{toHyphen, extendedYmd, shortDay, plainDay}
-use Rattle.date.specs.Grammar.{noDigits}
+use Rattle.clock.specs.Grammar.{noDigits}
 use Rattle.column.specs.Columns.{Date32, column}
-use Rattle.component.specs.Units.{rank, spellings, same, oneOf, find, low, kelvin, lower, unitOf, present, isUnit}
-use Rattle.component.specs.Grammar.{precision, wholeFits}
-use Rattle.component.specs.Division.{negative, signLen, pointLen, digitsLen, amountLen, wordLen, endStep, unitStep, restStep, amountStep, step, before, then, divideBy, divide}
-use Rattle.component.specs.Amount.{fracOf, unsignedOf, amountOf, orElse, spelled, unitFor}
-use Rattle.interval.specs.Contribution.{times, wholeTimes, fracTimes, contribution}
-use Rattle.interval.specs.Answer.{gives, fits, plus, totals, has, twice, onTotals, onDivision, monthDayNano, plainMonthDayNano}
-
--- a reader, a text, and the answer: the counts in their order, or a refusal
-pub data Row : Type 0 where
-  row : (List ℕ → Outcome (List ℤ)) → String → Outcome (List ℤ) → Row
-
-abbrev computed : Row → Outcome (List ℤ)
-computed (row reader t r) = reader (bytes t)
-
-abbrev told : Row → Outcome (List ℤ)
-told (row reader t r) = r
+use Rattle.unit.specs.Units.{rank, spellings, same, oneOf, find, low, kelvin, lower, unitOf, present, isUnit, wordLen, orElse}
+use Rattle.component.specs.Grammar.{precision, wholeFits, scaled}
+use Rattle.component.specs.Division.{negative, signLen, pointLen, digitsLen, amountLen, endStep, unitStep, restStep, amountStep, step, before, then, divideBy, divide}
+use Rattle.component.specs.Amount.{fracOf, unsignedOf, amountOf, spelled, unitFor}
+use Rattle.interval.specs.Contribution.{times, wholeTimes, fracTimes, contribution, fits, plus}
+use Rattle.interval.specs.Answer.{gives, totals, has, twice, onTotals, onDivision, monthDayNano, plainMonthDayNano}
 
 -- one count, and three
 abbrev one : Outcome ℤ → Outcome (List ℤ)
@@ -42,13 +33,13 @@ abbrev interval : List ℕ → Outcome (List ℤ)
 interval t = andThen (plainMonthDayNano precision t) (λ c. accepted (c .months ∷ c .days ∷ c .nanos ∷ []))
 
 -- months, days and nanoseconds
-abbrev reads : String → ℤ → ℤ → ℤ → Row
-reads t m d n = row interval t (accepted (m ∷ d ∷ n ∷ []))
+abbrev reads : String → ℤ → ℤ → ℤ → Row (Outcome (List ℤ))
+reads t m d n = row (interval (bytes t)) (accepted (m ∷ d ∷ n ∷ []))
 
-abbrev refuses : String → ℕ → Row
-refuses t n = row interval t (refused n)
+abbrev refuses : String → ℕ → Row (Outcome (List ℤ))
+refuses t n = row (interval (bytes t)) (refused n)
 
-abbrev rows : List Row
+abbrev rows : List (Row (Outcome (List ℤ)))
 rows =
     refuses "" 8 ∷
     reads "1.5 months" (pos 1) (pos 15) (pos 0) ∷
@@ -60,10 +51,10 @@ rows =
     refuses "1 day 1 d" 9 ∷
     reads "306783378 weeks -2 days 0.1 months" (pos 0) (pos 2_147_483_647) (pos 0) ∷
     refuses "306783378 weeks 0.1 months -2 days" 10 ∷
-    row (λ t. one (timeNanos t)) "23:59:60" (accepted (pos 86_400_000_000_000 ∷ [])) ∷
-    row (λ t. one (column Date32 t)) "2020-1-1xy" (accepted (pos 18_262 ∷ [])) ∷
+    row (one (timeNanos (bytes "23:59:60"))) (accepted (pos 86_400_000_000_000 ∷ [])) ∷
+    row (one (column Date32 (bytes "2020-1-1xy"))) (accepted (pos 18_262 ∷ [])) ∷
     []
 
-pub readings : map computed rows ≡ map told rows
-unfolding digits value run blanks trimStart trimEnd wellFormed white1 white2 white3 whiteOf span beforeMonth nanosFrom timeOfDay toHyphen extendedYmd shortDay plainDay noDigits rank spellings same oneOf find low kelvin lower unitOf present isUnit wholeFits negative signLen pointLen digitsLen amountLen wordLen endStep unitStep restStep amountStep step before then divideBy divide fracOf unsignedOf amountOf times wholeTimes fracTimes contribution orElse spelled unitFor gives fits plus totals has twice onTotals onDivision monthDayNano plainMonthDayNano
+pub readings : Readings rows
+unfolding digits value run blanks trimStart trimEnd wellFormed white1 white2 white3 whiteOf span beforeMonth nanosOf timeOfDay toHyphen extendedYmd shortDay plainDay noDigits rank spellings same oneOf find low kelvin lower unitOf present isUnit wholeFits negative signLen pointLen digitsLen amountLen wordLen endStep unitStep restStep amountStep step before then divideBy divide scaled fracOf unsignedOf amountOf times wholeTimes fracTimes contribution orElse spelled unitFor gives fits plus totals has twice onTotals onDivision monthDayNano plainMonthDayNano
 readings = refl

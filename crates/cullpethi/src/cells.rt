@@ -4,7 +4,7 @@ use interval::IntervalRead;
 use refusal::Read32;
 use refusal::Read64;
 ghost use Rattle.refusal.specs.Outcome.{outcome32, outcome64};
-ghost use Rattle.interval.specs.Answer.{dayTimeOf};
+ghost use Rattle.interval.specs.Meaning.{dayTimeOf};
 ghost use Rattle.interval.specs.Contribution.{counts};
 ghost use Rattle.interval.specs.Read.{dayTimeOutcome, intervalOutcome};
 ghost use Rattle.cullpethi.specs.Cells.{Told};

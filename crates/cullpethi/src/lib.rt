@@ -13,26 +13,28 @@ use column::times::Time32MillisecondType;
 use column::times::Time32SecondType;
 use column::times::Time64MicrosecondType;
 use column::times::Time64NanosecondType;
-use component::UnitRead;
 use interval::IntervalParseConfig;
 use interval::parse_interval_day_time;
 use interval::parse_interval_month_day_nano;
 use interval::parse_interval_month_day_nano_config;
 use interval::parse_interval_year_month;
+use site::site_stamp;
 use time::string_to_time_nanoseconds;
-use timestamp::site::site_stamp;
 use timestamp::stamp::string_to_timestamp_nanos;
+use unit::UnitRead;
+use unit::numbers::unit_numbered;
 ghost use Rattle.column.specs.Columns.{column, TimestampNanosecond, TimestampMicrosecond, TimestampMillisecond, TimestampSecond, Time64Nanosecond, Time64Microsecond, Time32Millisecond, Time32Second, Date32, Date64};
 ghost use Rattle.component.specs.Grammar.{precision};
-ghost use Rattle.interval.specs.Answer.{dayTime, dayTimeOf, plainMonthDayNano, yearMonth};
+ghost use Rattle.interval.specs.Answer.{dayTime, plainMonthDayNano, yearMonth};
+ghost use Rattle.interval.specs.Meaning.{dayTimeOf};
 ghost use Rattle.interval.specs.Contribution.{counts};
 ghost use Rattle.time.specs.Answer.{timeNanos};
 ghost use Rattle.timestamp.specs.Answer.{stampNanos};
-ghost use Rattle.timestamp.specs.Site.{siteNanos};
-ghost use Rattle.cullpethi.specs.Cells.{Told, inUnit, unitNumbered};
+ghost use Rattle.site.specs.Site.{siteNanos};
+ghost use Rattle.unit.specs.Units.{unitNumbered};
+ghost use Rattle.cullpethi.specs.Cells.{Told, inUnit};
 
 mod cells;
-mod units;
 
 // A stamp, in nanoseconds since 1970-01-01.
 #[no_mangle]
@@ -182,7 +184,7 @@ pub extern "C" fn cullpethi_parse_interval_month_day_nano_config(
 ) -> u8
     ensures { λ r. ⌜ Told (inUnit (unitNumbered «default_unit») (now (text .entry))) r (counts (now (months .entry)) (now (days .entry)) (now (nanos .entry))) (counts (now (months .exit)) (now (days .exit)) (now (nanos .exit))) ⌝ }
 {
-    match units::unit_numbered(default_unit) {
+    match unit_numbered(default_unit) {
         UnitRead::Unit(unit) => put_interval(
             parse_interval_month_day_nano_config(text, IntervalParseConfig::new(unit)),
             months,

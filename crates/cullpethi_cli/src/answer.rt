@@ -1,6 +1,7 @@
-// The answer of each reader, written with the unit of its counts. Each function tells the status.
+// The answer of each reader, with the unit of its counts behind it.
 use crate::names::Reader;
 use crate::show;
+use crate::show::Shown;
 use column::dates::Date32Type;
 use column::dates::Date64Type;
 use column::stamps::TimestampMicrosecondType;
@@ -11,54 +12,73 @@ use column::times::Time32MillisecondType;
 use column::times::Time32SecondType;
 use column::times::Time64MicrosecondType;
 use column::times::Time64NanosecondType;
-use component::IntervalUnit;
 use interval::IntervalParseConfig;
+use interval::IntervalRead;
 use interval::parse_interval_day_time;
 use interval::parse_interval_month_day_nano;
 use interval::parse_interval_month_day_nano_config;
 use interval::parse_interval_year_month;
+use refusal::Read32;
 use refusal::Read64;
+use site::site_stamp;
 use time::string_to_time_nanoseconds;
-use timestamp::site::site_stamp;
 use timestamp::stamp::string_to_timestamp_nanos;
+use unit::IntervalUnit;
 
-pub fn of(reader: Reader, text: &[u8]) -> u8 {
+pub fn of(reader: Reader, text: &[u8], n: usize, out: &mut [u8]) -> Shown {
     match reader {
-        Reader::StampNanos => nanos(string_to_timestamp_nanos(text)),
-        Reader::SiteStamp => nanos(site_stamp(text)),
-        Reader::TimestampNanosecond => nanos(TimestampNanosecondType::parse(text)),
-        Reader::TimestampMicrosecond => micros(TimestampMicrosecondType::parse(text)),
-        Reader::TimestampMillisecond => millis(TimestampMillisecondType::parse(text)),
-        Reader::TimestampSecond => show::read64(TimestampSecondType::parse(text), b" seconds"),
-        Reader::TimeNanos => nanos(string_to_time_nanoseconds(text)),
-        Reader::Time64Nanosecond => nanos(Time64NanosecondType::parse(text)),
-        Reader::Time64Microsecond => micros(Time64MicrosecondType::parse(text)),
-        Reader::Time32Millisecond => show::read32(
-            Time32MillisecondType::parse(text),
-            b" milliseconds",
-        ),
-        Reader::Time32Second => show::read32(Time32SecondType::parse(text), b" seconds"),
-        Reader::Date32 => show::read32(Date32Type::parse(text), b" days"),
-        Reader::Date64 => millis(Date64Type::parse(text)),
-        Reader::Interval => show::interval(parse_interval_month_day_nano(text)),
-        Reader::IntervalIn(unit) => interval_in(unit, text),
-        Reader::IntervalYearMonth => show::read32(parse_interval_year_month(text), b" months"),
-        Reader::IntervalDayTime => show::day_time(parse_interval_day_time(text)),
+        Reader::StampNanos => nanos(string_to_timestamp_nanos(text), n, out),
+        Reader::SiteStamp => nanos(site_stamp(text), n, out),
+        Reader::TimestampNanosecond => nanos(TimestampNanosecondType::parse(text), n, out),
+        Reader::TimestampMicrosecond => micros(TimestampMicrosecondType::parse(text), n, out),
+        Reader::TimestampMillisecond => millis(TimestampMillisecondType::parse(text), n, out),
+        Reader::TimestampSecond => seconds(TimestampSecondType::parse(text), n, out),
+        Reader::TimeNanos => nanos(string_to_time_nanoseconds(text), n, out),
+        Reader::Time64Nanosecond => nanos(Time64NanosecondType::parse(text), n, out),
+        Reader::Time64Microsecond => micros(Time64MicrosecondType::parse(text), n, out),
+        Reader::Time32Millisecond => millis32(Time32MillisecondType::parse(text), n, out),
+        Reader::Time32Second => seconds32(Time32SecondType::parse(text), n, out),
+        Reader::Date32 => days(Date32Type::parse(text), n, out),
+        Reader::Date64 => millis(Date64Type::parse(text), n, out),
+        Reader::Interval => show::interval(parse_interval_month_day_nano(text), n, out),
+        Reader::IntervalIn(unit) => show::interval(interval_in(unit, text), n, out),
+        Reader::IntervalYearMonth => months(parse_interval_year_month(text), n, out),
+        Reader::IntervalDayTime => show::day_time(parse_interval_day_time(text), n, out),
     }
 }
 
-fn interval_in(unit: IntervalUnit, text: &[u8]) -> u8 {
-    show::interval(parse_interval_month_day_nano_config(text, IntervalParseConfig::new(unit)))
+fn interval_in(unit: IntervalUnit, text: &[u8]) -> IntervalRead {
+    parse_interval_month_day_nano_config(text, IntervalParseConfig::new(unit))
 }
 
-fn nanos(r: Read64) -> u8 {
-    show::read64(r, b" nanoseconds")
+fn nanos(r: Read64, n: usize, out: &mut [u8]) -> Shown {
+    show::read64(r, b" nanoseconds", n, out)
 }
 
-fn micros(r: Read64) -> u8 {
-    show::read64(r, b" microseconds")
+fn micros(r: Read64, n: usize, out: &mut [u8]) -> Shown {
+    show::read64(r, b" microseconds", n, out)
 }
 
-fn millis(r: Read64) -> u8 {
-    show::read64(r, b" milliseconds")
+fn millis(r: Read64, n: usize, out: &mut [u8]) -> Shown {
+    show::read64(r, b" milliseconds", n, out)
+}
+
+fn seconds(r: Read64, n: usize, out: &mut [u8]) -> Shown {
+    show::read64(r, b" seconds", n, out)
+}
+
+fn millis32(r: Read32, n: usize, out: &mut [u8]) -> Shown {
+    show::read32(r, b" milliseconds", n, out)
+}
+
+fn seconds32(r: Read32, n: usize, out: &mut [u8]) -> Shown {
+    show::read32(r, b" seconds", n, out)
+}
+
+fn days(r: Read32, n: usize, out: &mut [u8]) -> Shown {
+    show::read32(r, b" days", n, out)
+}
+
+fn months(r: Read32, n: usize, out: &mut [u8]) -> Shown {
+    show::read32(r, b" months", n, out)
 }

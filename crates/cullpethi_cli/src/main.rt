@@ -1,16 +1,16 @@
 // The command line: reads a text, or each line of standard input, by the reader that is named, and writes the counts or the refusal.
 // A program has no exit status of its own, so behind `--status` it is written to descriptor 3, for the script that starts it.
-use component::IntervalUnit;
-use component::UnitRead;
 use names::Named;
 use names::Reader;
-ghost use Prim.Native.Nat.{_≤_};
+use words::Words;
 
 mod answer;
 mod help;
-mod lines;
+mod input;
 mod names;
+mod output;
 mod show;
+mod words;
 
 // Each text was read.
 pub const READ: u8 = 0;
@@ -21,8 +21,15 @@ pub const REFUSED: u8 = 1;
 // Bad usage, or no input or output.
 pub const FAILED: u8 = 2;
 
+// What is asked of each text.
+pub struct Asked {
+    pub reader: Reader,
+    // Whether the line's number goes in front.
+    pub number: bool,
+}
+
 fn main() {
-    if is_word(1, b"--status") {
+    if words::is_word(1, b"--status") {
         let status = command(2);
         io::print_decimal(3, status as u64);
     } else {
@@ -30,74 +37,52 @@ fn main() {
     }
 }
 
-// Whether an argument is this word.
-fn is_word(at: usize, word: &[u8]) -> bool {
-    let mut space = io::buffer();
-    let n = os::arg(at, &mut space);
-    check::same(&space[..n], word)
-}
-
 // The command whose words begin at an argument.
-fn command(at: usize) -> u8
-    requires { ⌜ at ≤ 2 ⌝ }
-{
-    if os::arg_count() <= at {
-        return help::bad_usage(b"no reader is named");
+fn command(at: usize) -> u8 {
+    let words = words::all(at);
+    if !words.good {
+        return FAILED;
     }
-    if is_word(at, b"--help") {
-        help::all();
-        return READ;
+    if words.version {
+        return help::version();
     }
-    match reader_at(at) {
-        Named::Is(reader) => with_reader(at + 1, reader),
-        Named::None => help::bad_usage(b"no such reader"),
-    }
-}
-
-fn reader_at(at: usize) -> Named {
-    let mut space = io::buffer();
-    let n = os::arg(at, &mut space);
-    names::reader_of(&space[..n])
-}
-
-fn unit_at(at: usize) -> UnitRead {
-    let mut space = io::buffer();
-    let n = os::arg(at, &mut space);
-    IntervalUnit::from_str(&space[..n])
-}
-
-fn with_reader(at: usize, reader: Reader) -> u8
-    requires { ⌜ at ≤ 3 ⌝ }
-{
-    if !is_word(at, b"--default") {
-        return text_or_lines(at, reader);
-    }
-    if !names::takes_default(reader) {
-        return help::bad_usage(b"--default is for interval alone");
-    }
-    match unit_at(at + 1) {
-        UnitRead::Unit(unit) => text_or_lines(at + 2, Reader::IntervalIn(unit)),
-        UnitRead::None => help::bad_usage(b"--default wants a unit from century to nanosecond"),
+    let named = words.reader;
+    match named {
+        Named::Is(reader) => with_reader(words, reader),
+        Named::None => with_none(words.help),
     }
 }
 
-fn text_or_lines(at: usize, reader: Reader) -> u8 {
-    let count = os::arg_count();
-    if count <= at {
-        return lines::each(reader);
+fn with_none(help: bool) -> u8 {
+    if help {
+        return help::all();
     }
-    if count - at != 1 {
-        return help::bad_usage(b"more than one text; a text with spaces stands in quotes");
+    output::bad_usage(b"no reader is named")
+}
+
+fn with_reader(words: Words, reader: Reader) -> u8 {
+    if words.help {
+        return help::one(reader);
     }
-    one_text(at, reader)
+    let asked = Asked {
+        reader: words.with_default(reader),
+        number: words.number,
+    };
+    if words.text == 0 {
+        return input::each(asked);
+    }
+    one_text(words.text, asked)
 }
 
 // The argument is there, so all that can be wrong is its length.
-fn one_text(at: usize, reader: Reader) -> u8 {
+fn one_text(at: usize, asked: Asked) -> u8 {
     let mut space = io::large_buffer();
     let n = os::arg(at, &mut space);
-    if os::errno() != 0 {
-        return show::too_long();
+    let whole = os::errno() == 0;
+    let mut out = io::buffer();
+    let shown = show::line(asked, 1, &space[..n], whole, 0, &mut out);
+    if output::written(shown.n, &out) {
+        return shown.status;
     }
-    answer::of(reader, &space[..n])
+    FAILED
 }

@@ -1,5 +1,5 @@
 // What the words of the command line name.
-use component::IntervalUnit;
+use unit::IntervalUnit;
 
 pub enum Reader {
     StampNanos,

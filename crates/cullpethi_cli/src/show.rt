@@ -1,114 +1,161 @@
-// What is written to standard output. A function that ends a line tells the status.
-use crate::FAILED;
+// Answers as lines of text, put behind the first n bytes of a room. Each function tells how many there are then.
+use crate::Asked;
 use crate::READ;
 use crate::REFUSED;
+use crate::answer;
 use interval::DayTimeRead;
 use interval::IntervalRead;
+use lines::output::put;
+use lines::output::put_number;
+use lines::output::put_signed;
+use lines::output::put_signed32;
 use refusal::Read32;
 use refusal::Read64;
 use refusal::Refusal;
 
-pub fn bytes(s: &[u8]) {
-    io::write_all(1, s);
+// How many bytes there are, and the status.
+pub struct Shown {
+    pub n: usize,
+    pub status: u8,
 }
 
-// The end of a line, where a full disk or a closed pipe shows.
-fn ended(status: u8) -> u8 {
-    if io::write_all(1, b"\n") {
-        status
-    } else {
-        FAILED
+// The line that answers a text, or says that it is not there whole; its number in front, if asked.
+pub fn line(
+    asked: Asked,
+    number: u64,
+    text: &[u8],
+    whole: bool,
+    n: usize,
+    out: &mut [u8],
+) -> Shown {
+    let start = numbered(asked.number, number, n, out);
+    let shown = text_or_too_long(asked, text, whole, start, out);
+    let n = put(b"\n", shown.n, out);
+    Shown {
+        n,
+        status: shown.status,
     }
 }
 
-fn signed(z: i64) {
-    if z < 0 {
-        bytes(b"-");
+fn numbered(asked: bool, number: u64, n: usize, out: &mut [u8]) -> usize {
+    if asked {
+        let digits = put_number(number, n, out);
+        return put(b": ", digits, out);
     }
-    io::print_decimal(1, number::sign::magnitude(z));
+    n
 }
 
-fn signed32(z: i32) {
-    signed(z as i64);
+fn text_or_too_long(asked: Asked, text: &[u8], whole: bool, n: usize, out: &mut [u8]) -> Shown {
+    if whole {
+        let reader = asked.reader;
+        let shown = answer::of(reader, text, n, out);
+        return with_carriage_return(shown, text, out);
+    }
+    Shown {
+        n: put(b"not read: longer than 65536 bytes", n, out),
+        status: REFUSED,
+    }
 }
 
-pub fn read64(r: Read64, unit: &[u8]) -> u8 {
+// Texts with the line ends of another system are refused for what does not show.
+fn with_carriage_return(shown: Shown, text: &[u8], out: &mut [u8]) -> Shown {
+    if shown.status == READ {
+        return shown;
+    }
+    if text.len() == 0 {
+        return shown;
+    }
+    if text[text.len() - 1] == b'\r' {
+        return Shown {
+            n: put(b" (the text ends in a carriage return)", shown.n, out),
+            status: REFUSED,
+        };
+    }
+    shown
+}
+
+// What was read, with its unit behind it.
+fn read(unit: &[u8], n: usize, out: &mut [u8]) -> Shown {
+    Shown {
+        n: put(unit, n, out),
+        status: READ,
+    }
+}
+
+pub fn read64(r: Read64, unit: &[u8], n: usize, out: &mut [u8]) -> Shown {
     match r {
         Read64::Value(z) => {
-            signed(z);
-            bytes(unit);
-            ended(READ)
+            let digits = put_signed(z, n, out);
+            read(unit, digits, out)
         }
-        Read64::Refused(why) => refused(why),
+        Read64::Refused(why) => refused(why, n, out),
     }
 }
 
-pub fn read32(r: Read32, unit: &[u8]) -> u8 {
+pub fn read32(r: Read32, unit: &[u8], n: usize, out: &mut [u8]) -> Shown {
     match r {
         Read32::Value(z) => {
-            signed32(z);
-            bytes(unit);
-            ended(READ)
+            let digits = put_signed32(z, n, out);
+            read(unit, digits, out)
         }
-        Read32::Refused(why) => refused(why),
+        Read32::Refused(why) => refused(why, n, out),
     }
 }
 
-pub fn interval(r: IntervalRead) -> u8 {
+pub fn interval(r: IntervalRead, n: usize, out: &mut [u8]) -> Shown {
     match r {
         IntervalRead::Value(x) => {
-            signed32(x.months.0);
-            bytes(b" months ");
-            signed32(x.days.0);
-            bytes(b" days ");
-            signed(x.nanos.0);
-            bytes(b" nanoseconds");
-            ended(READ)
+            let days = months_and_days(x.months.0, x.days.0, n, out);
+            let nanos = put_signed(x.nanos.0, days, out);
+            read(b" nanoseconds", nanos, out)
         }
-        IntervalRead::Refused(why) => refused(why),
+        IntervalRead::Refused(why) => refused(why, n, out),
     }
 }
 
-pub fn day_time(r: DayTimeRead) -> u8 {
+fn months_and_days(months: i32, days: i32, n: usize, out: &mut [u8]) -> usize {
+    let n = put_signed32(months, n, out);
+    let n = put(b" months ", n, out);
+    let n = put_signed32(days, n, out);
+    put(b" days ", n, out)
+}
+
+pub fn day_time(r: DayTimeRead, n: usize, out: &mut [u8]) -> Shown {
     match r {
         DayTimeRead::Value(x) => {
-            signed32(x.days.0);
-            bytes(b" days ");
-            signed32(x.millis.0);
-            bytes(b" milliseconds");
-            ended(READ)
+            let days = put_signed32(x.days.0, n, out);
+            let days = put(b" days ", days, out);
+            let millis = put_signed32(x.millis.0, days, out);
+            read(b" milliseconds", millis, out)
         }
-        DayTimeRead::Refused(why) => refused(why),
+        DayTimeRead::Refused(why) => refused(why, n, out),
     }
 }
 
-fn refused(why: Refusal) -> u8 {
-    bytes(b"refused ");
-    refusal(why);
-    ended(REFUSED)
-}
-
-pub fn too_long() -> u8 {
-    bytes(b"not read: longer than 65536 bytes");
-    ended(REFUSED)
+fn refused(why: Refusal, n: usize, out: &mut [u8]) -> Shown {
+    let refused = put(b"refused ", n, out);
+    Shown {
+        n: refusal(why, refused, out),
+        status: REFUSED,
+    }
 }
 
 // A refusal's number and what it means.
-pub fn refusal(why: Refusal) {
-    io::print_decimal(1, why.number() as u64);
-    bytes(b": ");
+pub fn refusal(why: Refusal, n: usize, out: &mut [u8]) -> usize {
+    let number = put_number(why.number() as u64, n, out);
+    let n = put(b": ", number, out);
     match why {
-        Refusal::NotUtf8 => bytes(b"not UTF-8"),
-        Refusal::Date => bytes(b"no date of the calendar"),
-        Refusal::Separator => bytes(b"no T, t or space behind the date"),
-        Refusal::Time => bytes(b"no time, or one out of range"),
-        Refusal::Tail => bytes(b"more behind the time than a single z or Z"),
-        Refusal::Range => bytes(b"nanoseconds beyond 64 bits or days beyond 32"),
-        Refusal::TimeOfDay => bytes(b"no time of day"),
-        Refusal::Interval => bytes(b"no interval"),
-        Refusal::RepeatedUnit => bytes(b"a unit comes twice"),
-        Refusal::Overflow => bytes(b"a contribution or a running total does not fit"),
-        Refusal::Narrowed => bytes(b"this form of interval cannot hold the result"),
-        Refusal::SiteStamp => bytes(b"a stamp, but no site stamp"),
+        Refusal::NotUtf8 => put(b"not UTF-8", n, out),
+        Refusal::Date => put(b"no date of the calendar", n, out),
+        Refusal::Separator => put(b"no T, t or space behind the date", n, out),
+        Refusal::Time => put(b"no time, or one out of range", n, out),
+        Refusal::Tail => put(b"more behind the time than a single z or Z", n, out),
+        Refusal::Range => put(b"nanoseconds beyond 64 bits or days beyond 32", n, out),
+        Refusal::TimeOfDay => put(b"no time of day", n, out),
+        Refusal::Interval => put(b"no interval", n, out),
+        Refusal::RepeatedUnit => put(b"a unit comes twice", n, out),
+        Refusal::Overflow => put(b"a contribution or a running total does not fit", n, out),
+        Refusal::Narrowed => put(b"this form of interval cannot hold the result", n, out),
+        Refusal::SiteStamp => put(b"a stamp, but no site stamp", n, out),
     }
 }

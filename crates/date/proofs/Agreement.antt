@@ -5,12 +5,12 @@ use mathlib.Core.Bool.{Bool, true, false, cond, not, _&&_, false≢true}
 use mathlib.Core.Logic.{inl, ⊎-elim, _↔_}
 use mathlib.Core.List.{List, [], _∷_, _++_}
 use mathlib.Core.Option.{Option, none, some}
-use Prim.Native.Nat.{ℕ, suc, _+_, _≤_, _<_}
+use Prim.Native.Nat.{ℕ, zero, suc, _+_, _-_, _≤_, _<_}
 use native.Mathlib.Omega.{arith}
 use native.Mathlib.Numerals.{add-one}
-use lib.Dec.{eqb, leb, ltb}
+use lib.Dec.{eqb, leb, ltb, lit<}
 use lib.ListN.{length, getD, take, drop, length-append, drop-of-length-le}
-use lib.Seq.{length-take-le, take-at, drop-at, drop-drop}
+use lib.Seq.{length-take-le, take-at, drop-at, drop-drop, getD-drop}
 use lib.IntN.{ℤ, pos, negsuc}
 use borrow.Author.Tests.{eqb-true, le-leb, leb-true, lt-leb, leb-false, lt-ltb, ltb-true, not-true}
 use Rattle.calendar.specs.Calendar.{civil}
@@ -19,14 +19,19 @@ use Rattle.number.specs.Decimal.{one-or-more, Numeral, plain, plus, minus, nume
 use Rattle.number.proofs.Agreement as Numerals
 use Rattle.refusal.specs.Outcome.{Outcome, accepted, refused, andThen}
 use Rattle.text.specs.Digits.{isDigit, worth, digits, value, twoDigits, twoAt}
-use Rattle.text.specs.Utf8.{utf8}
+use Rattle.text.specs.Utf8.{utf8, ascii}
+use Rattle.text.proofs.Ascii.{ascii-nil, ascii-cons, ascii-append, ascii-digits, ascii-utf8}
 use Rattle.text.proofs.Bools.{and-left, and-right, and-false, or-cases, by-test}
-use Rattle.timestamp.specs.Grammar.{Figures}
-use Rattle.timestamp.specs.Answer.{isDate, dayOf, Moment, plainMoment}
-use Rattle.timestamp.proofs.Shapes.{by-one, by-two, by-four, one-figure, two-figures, four-figures, one-value, two-value, four-value, not-sign, size-of, sign-inside, seven, eight}
+use Rattle.clock.specs.Grammar.{Figures, noDigits}
+use Rattle.refusal.proofs.Outcomes.{clash}
+use Rattle.text.proofs.DigitLists.{one-value, two-value, four-value}
+use Rattle.text.proofs.Logic.{none-some, both}
+use Rattle.text.proofs.Places.{not-sign, sign-inside, seven, eight}
+use Rattle.clock.proofs.Figures.{by-one, by-two, by-four, one-figure, two-figures, four-figures, size-of, ascii-figures}
+use Rattle.timestamp.specs.Answer.{isDate, dayOf, plainMoment}
+use Rattle.timestamp.specs.Meaning.{Moment}
 use Rattle.timestamp.proofs.Agreement as Stamps
-use Rattle.timestamp.proofs.Agreement.{clash, none-some, both}
-use Rattle.date.specs.Grammar.{OneOrTwo, one, two, noDigits, Sign, DateText, compact, hyphens, signed, NamesDay, of-date, of-stamp, Reads, reads}
+use Rattle.date.specs.Grammar.{OneOrTwo, one, two, Sign, DateText, compact, hyphens, signed, NamesDay, of-date, of-stamp, Reads, reads}
 use Rattle.date.specs.Grammar as Grammar
 use Rattle.date.specs.Answer.{isSign, toHyphen, numbers, monthDay, extendedYmd, dayWith, signedDay, fourDigits, fourAt, compactDay, lastDay, hyphenDay, shortDay, onDay, plainDay, dayNamed, inDays, dateDays}
 
@@ -78,14 +83,15 @@ signed-read s y m d z n k h e p q r u v w =
 
 -- ---- the unsigned forms are read
 
-first-no-digit : (i : List ℕ) → noDigits i ≡ true → isDigit (getD i 0 0) ≡ false
+no-digit-at : (i : List ℕ) (k : ℕ) → noDigits i ≡ true → isDigit (getD i k 0) ≡ false
 unfolding noDigits
-first-no-digit [] e = refl
-first-no-digit (b ∷ i) e = not-true (isDigit b) (and-left (not (isDigit b)) (noDigits i) e)
+no-digit-at [] k e = refl
+no-digit-at (b ∷ i) zero e = not-true (isDigit b) (and-left (not (isDigit b)) (noDigits i) e)
+no-digit-at (b ∷ i) (suc k) e = no-digit-at i k (and-right (not (isDigit b)) (noDigits i) e)
 
 last-read : (y : ℤ) (m : ℕ) (d i : List ℕ) → OneOrTwo d → noDigits i ≡ true → lastDay y m (d ++ i) ≡ civil y m (value 0 d)
 last-read y m d i (one p) e =
-    by-one (λ d. lastDay y m (d ++ i) ≡ civil y m (value 0 d)) (λ a fa. rw (one-value a, first-no-digit i e, and-false (isDigit a), fa, e)) d p
+    by-one (λ d. lastDay y m (d ++ i) ≡ civil y m (value 0 d)) (λ a fa. rw (one-value a, no-digit-at i 0 e, and-false (isDigit a), fa, e)) d p
 last-read y m d i (two p) e =
     by-two (λ d. lastDay y m (d ++ i) ≡ civil y m (value 0 d)) (λ a b fa fb. rw (two-value a b, fa, fb, e)) d p
 
@@ -387,6 +393,79 @@ sound t z u e =
     on-stamp : (o : Outcome Moment) → plainMoment t ≡ o → 10 < length t → andThen o (λ x. accepted (x .day)) ≡ accepted z → NamesDay t z
     on-stamp (accepted x) p l e = let v : x .day ≡ z = cc in rw (← v) (of-stamp x (Stamps.sound t x p) l)
     on-stamp (refused n) p l e = clash e
+
+-- ---- an accepted text that ends in a digit is UTF-8, so that it need not be looked at
+
+-- the last byte of a text is that of its end
+last-byte : (a i : List ℕ) → 1 ≤ length i → getD (a ++ i) (length (a ++ i) - 1) 0 ≡ getD i (length i - 1) 0
+last-byte a i h =
+    let q : length (a ++ i) - 1 ≡ length a + (length i - 1) = omega (arith, length-append a i) in
+    rw q
+    (sym (getD-drop (length a) (a ++ i) (length i - 1) 0) ∙ ap (λ (t : List ℕ). getD t (length i - 1) 0) (drop-at a i (length a) refl))
+
+behind-sign : (a : List ℕ) (b : ℕ) (i : List ℕ) → 1 ≤ length i → getD (a ++ (b ∷ i)) (length (a ++ (b ∷ i)) - 1) 0 ≡ getD i (length i - 1) 0
+behind-sign a b i h = last-byte a (b ∷ i) (omega arith) ∙ last-byte (b ∷ []) i h
+
+-- nothing is ignored behind a date yyyy-m-d that ends in a digit
+none-ignored : (y m d i : List ℕ) → noDigits i ≡ true → isDigit (getD (y ++ (0x2D ∷ (m ++ (0x2D ∷ (d ++ i))))) (length (y ++ (0x2D ∷ (m ++ (0x2D ∷ (d ++ i))))) - 1) 0) ≡ true → ascii i ≡ true
+none-ignored y m d [] n e = ascii-nil
+none-ignored y m d (b ∷ i) n e =
+    let r : List ℕ = d ++ (b ∷ i) in
+    let h : 1 ≤ length r = omega (arith, length-append d (b ∷ i)) in
+    let q = behind-sign y 0x2D (m ++ (0x2D ∷ r)) (omega (arith, length-append m (0x2D ∷ r))) ∙ behind-sign m 0x2D r h ∙ last-byte d (b ∷ i) (omega arith) in
+    absurd (false≢true (sym (no-digit-at (b ∷ i) (length (b ∷ i) - 1) n) ∙ sym (ap isDigit q) ∙ e))
+
+ascii-number : {m : List ℕ} {z : ℤ} → Numeral false m z → ascii m ≡ true
+ascii-number {m} (plain d) = ascii-digits m (Numerals.all-digits d)
+ascii-number (plus {t} d) = ascii-cons 0x2B t (lit< tt) (ascii-digits t (Numerals.all-digits d))
+ascii-number (minus e d) = absurd (false≢true e)
+
+ascii-sign : {s : ℕ} → Sign s → s < 0x80
+ascii-sign Grammar.plus = lit< tt
+ascii-sign Grammar.minus = lit< tt
+
+ascii-one-or-two : {t : List ℕ} → OneOrTwo t → ascii t ≡ true
+ascii-one-or-two (one p) = ascii-figures p
+ascii-one-or-two (two p) = ascii-figures p
+
+ascii-date : {t : List ℕ} {y : ℤ} {m d : ℕ} → DateText t y m d → isDigit (getD t (length t - 1) 0) ≡ true → ascii t ≡ true
+ascii-date (compact y m d p q r) e = ascii-append y _ (ascii-figures p) (ascii-append m d (ascii-figures q) (ascii-figures r))
+ascii-date (hyphens y m d i p q r n l) e =
+    ascii-append y _ (ascii-figures p)
+    (ascii-cons 0x2D _ (lit< tt)
+    (ascii-append m _ (ascii-one-or-two q) (ascii-cons 0x2D _ (lit< tt) (ascii-append d i (ascii-one-or-two r) (none-ignored y m d i n e)))))
+ascii-date (signed s y m d g h f n i p j q k) e =
+    ascii-cons s _ (ascii-sign g)
+    (ascii-append y _ (ascii-digits y f) (ascii-cons 0x2D _ (lit< tt) (ascii-append m _ (ascii-number p) (ascii-cons 0x2D d (lit< tt) (ascii-number q)))))
+
+pub read-utf8 : (t : List ℕ) (z : ℤ) → plainDay t ≡ accepted z → isDigit (getD t (length t - 1) 0) ≡ true → utf8 t ≡ true
+unfolding plainDay
+read-utf8 t z e d =
+    by-test (isSign (getD t 0 0))
+    (λ g. by-sign t g (rw g at e) d)
+    (λ g.
+    by-test (leb (length t) 10)
+    (λ l. on-day (shortDay t) refl (leb-true (length t) 10 l) (rw (g, l) at e))
+    (λ l. on-stamp (plainMoment t) refl (rw (g, l) at e)))
+  where
+    dated : {t : List ℕ} {z : ℤ} → DateIs t z → isDigit (getD t (length t - 1) 0) ≡ true → utf8 t ≡ true
+    dated {t} x d = ascii-utf8 t (ascii-date (x .text) d)
+
+    signed-day : (s : ℕ) (r : List ℕ) → isSign s ≡ true → (o : Option ℤ) → signedDay (s ∷ r) ≡ o → onDay o ≡ accepted z → isDigit (getD (s ∷ r) (length (s ∷ r) - 1) 0) ≡ true → utf8 (s ∷ r) ≡ true
+    signed-day s r g none p e d = clash e
+    signed-day s r g (some y) p e d = dated (signed-sound s r y g p) d
+
+    by-sign : (t : List ℕ) → isSign (getD t 0 0) ≡ true → onDay (signedDay t) ≡ accepted z → isDigit (getD t (length t - 1) 0) ≡ true → utf8 t ≡ true
+    by-sign [] g e d = absurd (false≢true g)
+    by-sign (s ∷ r) g e d = signed-day s r g (signedDay (s ∷ r)) refl e d
+
+    on-day : (o : Option ℤ) → shortDay t ≡ o → length t ≤ 10 → onDay o ≡ accepted z → utf8 t ≡ true
+    on-day none p l e = clash e
+    on-day (some y) p l e = dated (short-sound t y l p) d
+
+    on-stamp : (o : Outcome Moment) → plainMoment t ≡ o → andThen o (λ x. accepted (x .day)) ≡ accepted z → utf8 t ≡ true
+    on-stamp (accepted x) p e = Stamps.read-utf8 t x p
+    on-stamp (refused n) p e = clash e
 
 -- ---- the theorems
 

@@ -15,8 +15,8 @@ use Rattle.number.proofs.Zed.{P, N, P-neg, N-neg}
 use Rattle.refusal.specs.Outcome.{accepted}
 use Rattle.text.specs.Digits.{value}
 use Rattle.text.proofs.Bools.{by-test}
-use Rattle.timestamp.specs.Grammar.{figures}
-use Rattle.timestamp.proofs.Bounds.{figures-most}
+use Rattle.clock.specs.Grammar.{figures}
+use Rattle.clock.proofs.Bounds.{figures-most}
 use Rattle.date.specs.Grammar.{DateText, compact, hyphens, signed, NamesDay, of-date, of-stamp}
 use Rattle.date.specs.Answer.{isSign, dayNamed}
 use Rattle.date.proofs.Agreement.{is-sign, first-digit, agrees}

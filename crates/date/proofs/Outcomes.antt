@@ -7,11 +7,12 @@ use lib.ListN.{getD, length}
 use lib.IntN.{ℤ}
 use borrow.Author.Tests.{le-leb, lt-leb}
 use Rattle.number.specs.Widths.{inSigned, fit}
-use Rattle.refusal.specs.Outcome.{Outcome, accepted, inUtf8, andThen}
+use Rattle.refusal.specs.Outcome.{Outcome, accepted, refused, andThen}
 use Rattle.text.specs.Utf8.{utf8}
 use Rattle.text.proofs.Bools.{by-test}
-use Rattle.timestamp.specs.Answer.{Moment, datetime}
-use Rattle.timestamp.proofs.Outcomes.{orRange}
+use Rattle.refusal.proofs.Outcomes.{orRange}
+use Rattle.timestamp.specs.Answer.{datetime}
+use Rattle.timestamp.specs.Meaning.{Moment}
 use Rattle.date.specs.Answer.{isSign, signedDay, shortDay, onDay, plainDay, dayNamed, inDays}
 
 -- ---- in days
@@ -30,14 +31,21 @@ itsDay o = andThen o (λ x. accepted (x .day))
 -- ---- the three forms
 
 module _ (s : List ℕ) where
-  pub signed-form : isSign (getD s 0 0) ≡ true → inUtf8 s (onDay (signedDay s)) ≡ dayNamed s
+  pub signed-form : isSign (getD s 0 0) ≡ true → onDay (signedDay s) ≡ plainDay s
   unfolding plainDay
   signed-form e = rw e
 
-  pub short-form : isSign (getD s 0 0) ≡ false → length s ≤ 10 → inUtf8 s (onDay (shortDay s)) ≡ dayNamed s
+  pub short-form : isSign (getD s 0 0) ≡ false → length s ≤ 10 → onDay (shortDay s) ≡ plainDay s
   unfolding plainDay
   short-form e l = rw (e, le-leb (length s) 10 l)
 
   pub stamp-form : isSign (getD s 0 0) ≡ false → 10 < length s → itsDay (datetime s) ≡ dayNamed s
   unfolding plainDay
   stamp-form e l = rw (e, lt-leb (length s) 10 l) (by-test (utf8 s) (λ u. rw u) (λ u. rw u))
+
+  -- UTF-8 comes first
+  pub is-utf8 : {z : ℤ} → accepted z ≡ plainDay s → utf8 s ≡ true → accepted z ≡ dayNamed s
+  is-utf8 e u = rw u e
+
+  pub no-utf8 : utf8 s ≡ false → refused 1 ≡ dayNamed s
+  no-utf8 u = rw u

@@ -15,13 +15,13 @@ use Rattle.refusal.specs.Outcome.{Outcome, accepted, refused, inUtf8, andThen}
 use Rattle.text.specs.Utf8.{utf8}
 use Rattle.text.proofs.Bools.{or-cases, by-test, fails, holds-not}
 use Rattle.text.proofs.Utf8Agrees as utf
-use Rattle.timestamp.specs.Answer.{Moment, instant, inNanos, datetime, stampNanos}
-use Rattle.timestamp.specs.Meaning.{Refuses as StampRefuses, not-utf8 as st-not-utf8, no-date as st-no-date, no-separator, no-time, more-after, out-of-range as st-out-of-range}
+use Rattle.refusal.proofs.Outcomes.{clash, same}
+use Rattle.timestamp.specs.Answer.{inNanos, datetime, stampNanos}
+use Rattle.timestamp.specs.Meaning.{Moment, instant, Refuses as StampRefuses, not-utf8 as st-not-utf8, no-date as st-no-date, no-separator, no-time, more-after, out-of-range as st-out-of-range}
 use Rattle.timestamp.proofs.Agreement as Stamps
-use Rattle.timestamp.proofs.Agreement.{clash}
-use Rattle.timestamp.proofs.Refusals.{same, refusals as stamp-refusals}
+use Rattle.timestamp.proofs.Refusals.{refusals as stamp-refusals}
 use Rattle.date.specs.Grammar.{plus, minus, NamesDay, DateForm, with-sign, within-ten, Refuses, not-utf8, no-date, as-stamp, out-of-range}
-use Rattle.date.specs.Answer.{isSign, signedDay, shortDay, onDay, dayNamed, inDays, dateDays}
+use Rattle.date.specs.Answer.{isSign, signedDay, shortDay, onDay, plainDay, dayNamed, inDays, dateDays}
 use Rattle.date.proofs.Outcomes.{signed-form, short-form, stamp-form, itsDay}
 use Rattle.date.proofs.Agreement.{agrees}
 
@@ -48,8 +48,8 @@ on-date t (some z) e h = absurd (h z (agrees t z .1 (sym e)))
 dates : (t : List ℕ) → utf8 t ≡ true → DateForm t → ((z : ℤ) → NamesDay t z → ⊥) → dayNamed t ≡ refused 2
 dates t u f h =
     by-test (isSign (getD t 0 0))
-    (λ g. on-date t (signedDay t) (in-utf8 t (onDay (signedDay t)) u ∙ signed-form t g) h)
-    (λ g. on-date t (shortDay t) (in-utf8 t (onDay (shortDay t)) u ∙ short-form t g (is-form f g)) h)
+    (λ g. on-date t (signedDay t) (signed-form t g ∙ in-utf8 t (plainDay t) u) h)
+    (λ g. on-date t (shortDay t) (short-form t g (is-form f g) ∙ in-utf8 t (plainDay t) u) h)
 
 -- ---- texts that are read as stamps
 
@@ -57,7 +57,7 @@ not-date : (t : List ℕ) → (DateForm t → ⊥) → (isSign (getD t 0 0) ≡ 
 not-date t f =
     (fails (isSign (getD t 0 0)) (sign-form t) f, leb-false (length t) 10 (fails (leb (length t) 10) (λ e. within-ten (leb-true (length t) 10 e)) f))
 
-stamps : (t : List ℕ) (n : ℕ) → stampNanos t ≡ refused n → n < 6 → datetime t ≡ refused n
+pub stamps : (t : List ℕ) (n : ℕ) → stampNanos t ≡ refused n → n < 6 → datetime t ≡ refused n
 stamps t n e l = by (datetime t) refl e
   where
     by : (o : Outcome Moment) → datetime t ≡ o → andThen o (λ m. inNanos (instant m)) ≡ refused n → datetime t ≡ refused n
@@ -68,12 +68,12 @@ stamps t n e l = by (datetime t) refl e
         (λ f. let q : refused 6 ≡ refused n = rw f at e in absurd (omega (arith, same q)))
 
 -- a stamp's refusals but the last are of texts that name no moment
-before-6 : {t : List ℕ} {n : ℕ} → StampRefuses t n → datetime t ≡ refused n → n < 6
+pub before-6 : {t : List ℕ} {n : ℕ} → StampRefuses t n → datetime t ≡ refused n → n < 6
 before-6 (st-not-utf8 h) e = lit< tt
 before-6 (st-no-date u h) e = lit< tt
 before-6 (no-separator a r b z u d s) e = lit< tt
 before-6 (no-time a r s z u d p q) e = lit< tt
-before-6 (more-after a r s z x u d p q n) e = lit< tt
+before-6 (more-after a r x s z c u d p q n) e = lit< tt
 before-6 (st-out-of-range {t} m n f) e = clash (sym e ∙ Stamps.agrees t m .0 n)
 
 -- ---- the theorem
@@ -106,9 +106,9 @@ module _ (t : List ℕ) where
   early n e =
       by-test (utf8 t)
       (λ u. by-test (isSign (getD t 0 0))
-      (λ g. unnamed u (sign-form t g) (signedDay t) (in-utf8 t (onDay (signedDay t)) u ∙ signed-form t g) n e)
+      (λ g. unnamed u (sign-form t g) (signedDay t) (signed-form t g ∙ in-utf8 t (plainDay t) u) n e)
       (λ g. by-test (leb (length t) 10)
-      (λ l. let h = leb-true (length t) 10 l in unnamed u (within-ten h) (shortDay t) (in-utf8 t (onDay (shortDay t)) u ∙ short-form t g h) n e)
+      (λ l. let h = leb-true (length t) 10 l in unnamed u (within-ten h) (shortDay t) (short-form t g h ∙ in-utf8 t (plainDay t) u) n e)
       (λ l. let h = leb-false (length t) 10 l in
       as-a-stamp (datetime t) refl (λ f. let k = is-form f g in absurd (omega arith)) n (stamp-form t g h ∙ e))))
       (λ u. let q : _≡_ {A = Outcome ℤ} (refused 1) (refused n) = rw u at e in rw (← same q) (not-utf8 (holds-not u (utf.agrees t .0))))

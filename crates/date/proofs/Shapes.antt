@@ -1,23 +1,23 @@
 -- Unsigned dates of at most 10 bytes, from the values that the code has of their bytes. Assumes nothing.
 use mathlib.Core.Path.{_≡_, refl, sym, _∙_}
 use mathlib.Core.Bool.{Bool, true, false, not, _&&_}
-use mathlib.Core.List.{List}
+use mathlib.Core.List.{List, [], _∷_}
 use mathlib.Core.Option.{none}
-use Prim.Native.Nat.{ℕ, _+_, _*_, _≤_, _<_}
+use Prim.Native.Nat.{ℕ, _+_, _-_, _*_, _≤_, _<_}
+use native.Mathlib.Omega.{arith}
 use native.Mathlib.Nat.{add-zero}
 use native.Mathlib.Numerals.{add-one}
 use lib.Dec.{ltb, eqb, lit<}
 use lib.ListN.{getD, length, drop, drop-of-length-le}
 use lib.Seq.{drop-cons, drop-drop, getD-drop}
 use lib.IntN.{ℤ, pos}
-use borrow.Author.Tests.{not-true, not-false, ltb-true, ltb-false, eq-eqb, ne-eqb}
+use borrow.Author.Tests.{not-true, not-false, ltb-true, eq-eqb, ne-eqb}
 use Rattle.calendar.specs.Calendar.{civil}
 use Rattle.text.specs.Digits.{isDigit, digitOf, twoDigits}
-use Rattle.text.proofs.Bools.{by-test}
 use Rattle.text.proofs.DigitLaws.{is-digit, no-digit, is-worth}
-use Rattle.text.proofs.TwoDigits.{twoOr, two-test, two-is, sign-test}
-use Rattle.timestamp.proofs.Agreement.{both}
-use Rattle.date.specs.Grammar.{noDigits}
+use Rattle.text.proofs.TwoDigits.{twoOr, two-test, two-is, sign-test, digit-below}
+use Rattle.text.proofs.Logic.{both, in-pairs}
+use Rattle.clock.specs.Grammar.{noDigits}
 use Rattle.date.specs.Answer.{fourDigits, compactDay, lastDay, hyphenDay, shortDay}
 
 -- ---- no digit from place i on; d is the byte there, less 48
@@ -36,20 +36,10 @@ module _ (s : List ℕ) (i : ℕ) where
   unfolding noDigits
   nothing-left h = rw (drop-of-length-le s h)
 
--- ---- a digit, and four tests in pairs
-
-digit-test : (b d : ℕ) → b < 256 → d ≡ digitOf b → ltb d 10 ≡ isDigit b
-digit-test b d f e =
-    by-test (ltb d 10)
-    (λ t. rw (t, is-digit b d f e (ltb-true d 10 t)))
-    (λ t. rw (t, no-digit b d f e (ltb-false d 10 t)))
-
-pub in-pairs : (a b c d : Bool) → (a && b) && (c && d) ≡ true → (a ≡ true) × (b ≡ true) × (c ≡ true) × (d ≡ true)
-in-pairs a b c d e =
-    let p = both (a && b) (c && d) e in
-    let x = both a b (p .0) in
-    let y = both c d (p .1) in
-    (x .0, x .1, y .0, y .1)
+-- an empty text does not end in a digit
+pub no-end : (s : List ℕ) → length s < 1 → false ≡ isDigit (getD s (length s - 1) 0)
+no-end [] h = refl
+no-end (b ∷ s) h = absurd (omega arith)
 
 -- two numbers that the code takes as two digits are so
 pub below-100 : (a b : ℕ) (t : Bool) → (ltb a 100 && ltb b 100) && t ≡ true → (a < 100) × (b < 100)
@@ -106,7 +96,7 @@ module _ (s : List ℕ) (n : ℕ) {a : ℕ} {f : Bool} (ea : a ≡ twoOr s n) (e
   -- b is the first byte less 48, and g that no digit follows it
   module _ {b : ℕ} {g : Bool} (no-two : ltb a 100 && f ≡ false) (fits : getD s n 0 < 256) (eb : b ≡ digitOf (getD s n 0)) (eg : g ≡ noDigits (drop (n + 1) s)) where
     one-left : ltb b 10 && g ≡ isDigit (getD (drop n s) 0 0) && noDigits (drop 1 (drop n s))
-    one-left = rw (digit-test (getD s n 0) b fits eb, eg, drop-drop 1 n s, getD-drop n s 0 0, add-zero n)
+    one-left = rw (digit-below (getD s n 0) b fits eb, eg, drop-drop 1 n s, getD-drop n s 0 0, add-zero n)
 
     pub one-last : ltb b 10 && g ≡ true → civil z m b ≡ lastDay z m (drop n s)
     one-last h =
@@ -153,7 +143,7 @@ module _ {s : List ℕ} {c y m h : ℕ} (fits : (i : ℕ) → getD s i 0 < 256) 
         rw (
           two-test 0 s 0 (r .century),
           two-test 0 s 2 (r .year),
-          digit-test (getD s 5 0) o (fits 5) eo,
+          digit-below (getD s 5 0) o (fits 5) eo,
           sign-test 0 s 6 253 0x2D (fits 6) (lit< tt) refl ek,
         )
 
@@ -161,7 +151,7 @@ module _ {s : List ℕ} {c y m h : ℕ} (fits : (i : ℕ) → getD s i 0 < 256) 
     after-one e =
         let t = sym one-month ∙ e in
         let x = in-pairs (twoDigits s 0) (twoDigits s 2) (isDigit (getD s 5 0)) (eqb (getD s 6 0) 0x2D) t in
-        let w : o < 10 = ltb-true o 10 (digit-test (getD s 5 0) o (fits 5) eo ∙ x .2) in
+        let w : o < 10 = ltb-true o 10 (digit-below (getD s 5 0) o (fits 5) eo ∙ x .2) in
         rw (sym two-month ∙ no-two, t, two-is 0 s 0 (r .century) (x .0), two-is 0 s 2 (r .year) (x .1), is-worth (getD s 5 0) o (fits 5) eo w)
 
     pub no-month : oneTest c y o k ≡ false → none ≡ hyphenDay s

@@ -15,9 +15,7 @@ use Rattle.text.specs.Digits.{isDigit, worth, twoDigits, twoAt}
 use Rattle.timestamp.specs.Answer.{plainMoment}
 use Rattle.date.specs.declared.Named.{Named}
 use Rattle.date.specs.declared.Named.the-variants.{Day as NamedDay, Refused as NamedRefused}
-use Rattle.date.specs.declared.Ymd.{Ymd}
-use Rattle.date.specs.declared.Ymd.the-variants.{Of as YmdOf, None as NoYmd}
-use Rattle.date.specs.Grammar.{noDigits}
+use Rattle.clock.specs.Grammar.{noDigits}
 
 abbrev pub isSign : ℕ → Bool
 isSign b = eqb b 0x2B || eqb b 0x2D
@@ -119,10 +117,6 @@ abbrev pub dateDays : List ℕ → Outcome ℤ
 dateDays t = andThen (dayNamed t) inDays
 
 -- ---- what the answers of the code say
-
-abbrev pub ymdIs : Ymd → Option Numbers
-ymdIs (YmdOf y m d) = some (record { year = y; month = m; day = d })
-ymdIs NoYmd = none
 
 abbrev pub namedIs : Named → Outcome ℤ
 namedIs (NamedDay z) = accepted z

@@ -2,7 +2,7 @@
 -- yyyymmdd too; the signed form is ISO 8601's expanded representation, with the month and the day as Rust's integers. And why any other
 -- text is refused. Assumes nothing.
 use mathlib.Core.Path.{_≡_}
-use mathlib.Core.Bool.{Bool, true, false, not, _&&_}
+use mathlib.Core.Bool.{true, false}
 use mathlib.Core.List.{List, [], _∷_, _++_}
 use mathlib.Core.Option.{some}
 use Prim.Native.Nat.{ℕ, _≤_, _<_}
@@ -11,21 +11,15 @@ use lib.IntN.{ℤ, pos}
 use Rattle.calendar.specs.Calendar.{civil}
 use Rattle.number.specs.Widths.{inSigned, inUnsigned}
 use Rattle.number.specs.Decimal.{Numeral}
-use Rattle.text.specs.Digits.{isDigit, digits, value}
+use Rattle.text.specs.Digits.{digits, value}
 use Rattle.text.specs.Utf8.{Utf8, utf8}
-use Rattle.timestamp.specs.Grammar.{Figures}
-use Rattle.timestamp.specs.Answer.{Moment}
-use Rattle.timestamp.specs.Meaning.{Names, Refuses as StampRefuses}
+use Rattle.clock.specs.Grammar.{Figures, noDigits}
+use Rattle.timestamp.specs.Meaning.{Moment, Names, Refuses as StampRefuses}
 
 -- one or two digits
 pub data OneOrTwo : List ℕ → Type 0 where
   one : {t : List ℕ} → Figures 1 t → OneOrTwo t
   two : {t : List ℕ} → Figures 2 t → OneOrTwo t
-
--- no byte is a digit
-unfoldable pub noDigits : List ℕ → Bool
-noDigits [] = true
-noDigits (b ∷ t) = not (isDigit b) && noDigits t
 
 -- a plus or a minus
 pub data Sign : ℕ → Type 0 where

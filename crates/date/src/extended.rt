@@ -8,7 +8,8 @@ ghost use mathlib.Core.Option.{some};
 ghost use Prim.Native.Nat.{_+_, _≤_};
 ghost use lib.ListN.{length, drop};
 ghost use Rattle.number.specs.Widths.{int32, nat32};
-ghost use Rattle.date.specs.Answer.{toHyphen, numbers, extendedYmd, ymdIs};
+ghost use Rattle.date.specs.Answer.{toHyphen, numbers, extendedYmd};
+ghost use Rattle.date.specs.Helpers.{ymdIs};
 
 // The sign and the year up to the first hyphen, the month up to the next, and the day: not yet whether the calendar has it.
 pub fn parse_extended_ymd(s: &[u8]) -> Ymd

@@ -1,5 +1,6 @@
 // The unsigned forms of at most 10 bytes: `20200101`, `2020-01-01`, `2020-1-1`.
 use calendar::Day;
+use text::digits::HYPHEN;
 use text::digits::digit;
 use text::digits::two;
 use text::white::byte_at;
@@ -8,24 +9,24 @@ ghost use Prim.Native.Nat.{_+_, _*_, _<_, _≤_};
 ghost use lib.ListN.{drop};
 ghost use lib.IntN.{pos};
 ghost use Rattle.calendar.specs.Calendar.{civil, day};
-ghost use Rattle.date.specs.Grammar.{noDigits};
+ghost use Rattle.calendar.specs.Cycle.{YearStarts};
+ghost use Rattle.clock.specs.Grammar.{noDigits};
 ghost use Rattle.date.specs.Answer.{compactDay, lastDay, hyphenDay, shortDay};
 
-// The hyphen as a digit: each byte less 48, wrapping.
-const HYPHEN: u8 = 253;
-
-pub fn short_day(s: &[u8]) -> Day
+pub fn short_day(starts: &[u32; 401], s: &[u8]) -> Day
+    requires { ⌜ YearStarts (now starts) ⌝ }
     ensures { λ r. ⌜ day r ≡ shortDay (now (s .entry)) ⌝ }
 {
     if digit(byte_at(s, 4)) == HYPHEN {
-        hyphen_day(s)
+        hyphen_day(starts, s)
     } else {
-        compact_day(s)
+        compact_day(starts, s)
     }
 }
 
 // yyyymmdd
-fn compact_day(s: &[u8]) -> Day
+fn compact_day(starts: &[u32; 401], s: &[u8]) -> Day
+    requires { ⌜ YearStarts (now starts) ⌝ }
     ensures { λ r. ⌜ day r ≡ compactDay (now (s .entry)) ⌝ }
 {
     let century = two(s, 0);
@@ -37,11 +38,12 @@ fn compact_day(s: &[u8]) -> Day
     if !shape {
         return Day::None;
     }
-    of_fields(century, year, month, day_of_month)
+    of_fields(starts, century, year, month, day_of_month)
 }
 
 // yyyy-m-d, with one or two digits for the month and the day.
-fn hyphen_day(s: &[u8]) -> Day
+fn hyphen_day(starts: &[u32; 401], s: &[u8]) -> Day
+    requires { ⌜ YearStarts (now starts) ⌝ }
     ensures { λ r. ⌜ day r ≡ hyphenDay (now (s .entry)) ⌝ }
 {
     let century = two(s, 0);
@@ -49,38 +51,40 @@ fn hyphen_day(s: &[u8]) -> Day
     let four = (century < 100) & (year < 100);
     let month = two(s, 5);
     if four & ((month < 100) & (digit(byte_at(s, 7)) == HYPHEN)) {
-        return last_day(s, 8, century, year, month);
+        return last_day(starts, s, 8, century, year, month);
     }
     let one = digit(byte_at(s, 5));
     if four & ((one < 10) & (digit(byte_at(s, 6)) == HYPHEN)) {
-        return last_day(s, 7, century, year, one);
+        return last_day(starts, s, 7, century, year, one);
     }
     Day::None
 }
 
 // One or two digits from a place on, and no digit after them.
-fn last_day(s: &[u8], at: usize, century: u8, year: u8, month: u8) -> Day
+fn last_day(starts: &[u32; 401], s: &[u8], at: usize, century: u8, year: u8, month: u8) -> Day
+    requires { ⌜ YearStarts (now starts) ⌝ }
     requires { ⌜ (at ≤ 8) × ((century < 100) × (year < 100)) ⌝ }
     ensures { λ r. ⌜ day r ≡ lastDay (pos (century * 100 + year)) month (drop at (now (s .entry))) ⌝ }
 {
     let both = two(s, at);
     if (both < 100) & no_digits(s, at + 2) {
-        return of_fields(century, year, month, both);
+        return of_fields(starts, century, year, month, both);
     }
     let one = digit(byte_at(s, at));
     if (one < 10) & no_digits(s, at + 1) {
-        return of_fields(century, year, month, one);
+        return of_fields(starts, century, year, month, one);
     }
     Day::None
 }
 
-fn of_fields(century: u8, year: u8, month: u8, day_of_month: u8) -> Day
+fn of_fields(starts: &[u32; 401], century: u8, year: u8, month: u8, day_of_month: u8) -> Day
+    requires { ⌜ YearStarts (now starts) ⌝ }
     requires { ⌜ (century < 100) × (year < 100) ⌝ }
     ensures { λ r. ⌜ day r ≡ civil (pos (century * 100 + year)) month «day_of_month» ⌝ }
 {
     let whole_year = century as u32 * 100 + year as u32;
     // Taken apart and put together, since a copy of the whole would wait for the stores of its parts.
-    match calendar::days_from_ymd(whole_year as i32, month as u32, day_of_month as u32) {
+    match calendar::days_from_ymd(starts, whole_year as i32, month as u32, day_of_month as u32) {
         Day::Number(z) => Day::Number(z),
         Day::None => Day::None,
     }

@@ -1,10 +1,10 @@
 -- What an amount of a unit comes to, as the code counts it: whole part and fraction both carry the sign, powers of ten go out of a
 -- fraction's factor and divisor, and a count is exact or does not fit. Assumes nothing.
 use mathlib.Core.Path.{_≡_, refl, sym, ap, _∙_}
-use mathlib.Core.Bool.{Bool, true, false}
+use mathlib.Core.Bool.{true, false}
 use mathlib.Core.Option.{Option, none, some, Option·none-ne-some}
-use Prim.Native.Nat.{ℕ, zero, suc, _+_, _*_, _/_, _^_, _≤_, _<_}
-use native.Mathlib.Nat.{mul-le-mul, mul-le-mul-left, mul-le-mul-right, div-lt-iff-lt-mul, div-le-self, zero-div}
+use Prim.Native.Nat.{ℕ, suc, _+_, _*_, _/_, _^_, _≤_, _<_}
+use native.Mathlib.Nat.{mul-le-mul, mul-le-mul-left, mul-le-mul-right, div-lt-iff-lt-mul, div-le-self}
 use native.Mathlib.Omega.{arith}
 use lib.IntN.{ℤ, pos, negsuc, negℤ, natAbs, _+ℤ_, _-ℤ_, _*ℤ_}
 use lib.Signed.{ltZ, quotZ}
@@ -12,42 +12,28 @@ use mir.Syntax.{Width, w32, w64}
 use mir.Val.{SFits, hbits, toZ}
 use mir.Facts.{toZ-ofZ, toZ-pos}
 use Rattle.text.proofs.Bools.{by-test}
-use Rattle.number.specs.Widths.{inSigned, signed, fit}
+use Rattle.number.specs.Widths.{inSigned, fit}
 use Rattle.number.proofs.Zed.{abs-neg, P, N, P-neg, N-neg, add-pn, mul-P, mul-N, lt-yes, lt-no, eq-of, fits-of}
 use Rattle.number.proofs.Ranges.{rd, fit-yes, fit-above, fit-below}
 use Rattle.number.proofs.Sizes.{too-large}
 use Rattle.component.specs.Grammar.{precision}
-use Rattle.component.specs.Amount.{Value}
-use Rattle.component.specs.Read.{amountFrom}
 use Rattle.component.specs.declared.IntervalAmount.{IntervalAmount}
-use Rattle.component.proofs.Amounts.{ten-pos, abs-signed, size-flips, size-minus}
-use Rattle.interval.specs.Contribution.{Counts, counts, times, wholeTimes, fracTimes}
-use Rattle.interval.specs.Answer.{fits, plus}
-use Rattle.interval.specs.Read.{Most, together, fitting, added}
-use Rattle.interval.proofs.Cuts.{times-cut, cut-ratio}
-
--- ---- a sign goes through products, quotients and sums
-
-mul-signed : (b : Bool) (m k : ℕ) → signed b m *ℤ pos k ≡ signed b (m * k)
-mul-signed true m k =
-    eq-of (negℤ (pos m) *ℤ pos k) (negℤ (pos (m * k))) (omega (arith, mul-P (negℤ (pos m)) k, mul-N (negℤ (pos m)) k, ap (λ (x : ℕ). x * k) (P-neg (pos m)), ap (λ (x : ℕ). x * k) (N-neg (pos m)), P-neg (pos (m * k)), N-neg (pos (m * k))))
-mul-signed false m k = refl
-
-quot-signed : (b : Bool) (m c : ℕ) → quotZ (signed b m) (pos c) ≡ signed b (m / c)
-quot-signed true zero c = rw zero-div
-quot-signed true (suc m) c = refl
-quot-signed false m c = refl
-
-add-signed : (b : Bool) (m j : ℕ) → signed b m +ℤ signed b j ≡ signed b (m + j)
-add-signed true m j =
-    eq-of (negℤ (pos m) +ℤ negℤ (pos j)) (negℤ (pos (m + j))) (omega (arith, add-pn (negℤ (pos m)) (negℤ (pos j)), P-neg (pos m), N-neg (pos m), P-neg (pos j), N-neg (pos j), P-neg (pos (m + j)), N-neg (pos (m + j))))
-add-signed false m j = refl
+use Rattle.text.proofs.Values.{ten-pos}
+use Rattle.component.proofs.AmountLaws.{abs-signed}
+use Rattle.component.proofs.Amounts.{size-flips, size-minus}
+use Rattle.component.specs.Read.{valueOf, SameSign}
+use Rattle.interval.specs.Contribution.{Counts, counts, times, wholeTimes, fracTimes, fits, plus}
+use Rattle.interval.specs.Helpers.{Most, together, fitting, added}
+use Rattle.interval.proofs.Cuts.{mul-signed, add-signed, part-signed, times-cut, frac-ratio}
 
 add-none : (z : ℤ) → z +ℤ pos 0 ≡ z
 add-none z = eq-of (z +ℤ pos 0) z (omega (arith, add-pn z (pos 0)))
 
 none-add : (z : ℤ) → pos 0 +ℤ z ≡ z
 none-add z = eq-of (pos 0 +ℤ z) z (omega (arith, add-pn (pos 0) z))
+
+times-one : (z : ℤ) → z *ℤ pos 1 ≡ z
+times-one z = eq-of (z *ℤ pos 1) z (omega (arith, mul-P z 1, mul-N z 1))
 
 -- ---- a part of a fraction: its factor is a, its divisor is c
 
@@ -66,6 +52,10 @@ abs-quot (negsuc n) c = abs-neg (suc n / c)
 size-of : (z : ℤ) {m : ℕ} → P z ≤ N z + m → N z ≤ P z + m → natAbs z ≤ m
 size-of (pos n) h l = omega arith
 size-of (negsuc n) h l = omega arith
+
+pub abs-zero : (z : ℤ) → natAbs z ≡ 0 → z ≡ pos 0
+abs-zero (pos n) e = ap pos e
+abs-zero (negsuc n) e = absurd (omega arith)
 
 pub small-fits : (z : ℤ) → natAbs z < 2 ^ 63 → SFits w64 z
 small-fits z h = fits-of w64 z (omega (arith, size-pn z))
@@ -120,74 +110,54 @@ module _ (f : ℤ) (b : natAbs f < 10 ^ precision) (a c : ℕ) (h : a ≤ 6048) 
         let d : natAbs f * a / c < 1201 = div-lt-iff-lt-mul {k = c} {x = natAbs f * a} {y = 1201} p .1 (omega arith) in
         rw part-reads (omega (arith, abs-quot (f *ℤ pos a) c, ap (λ (x : ℕ). x / c) (abs-mul f a)))
 
--- ---- the value v of an amount; a over c is a unit's factor k over ten to the limit
+-- ---- an amount x as the machine has its parts; a over c is a unit's factor k over ten to the limit
 
-module _ (v : Value) where
-  abbrev whole : ℤ
-  whole = signed (v .neg) (v .integer)
-
-  abbrev frac : ℤ
-  frac = signed (v .neg) (v .frac)
-
-  part-signed : (a c : ℕ) → quotZ (frac *ℤ pos a) (pos c) ≡ signed (v .neg) (v .frac * a / c)
-  part-signed a c = rw (mul-signed (v .neg) (v .frac) a) (quot-signed (v .neg) (v .frac * a) c)
-
-  module _ (k a c : ℕ) (p : 0 < c) (q : k * c ≡ a * 10 ^ precision) where
-    cut-here : v .frac * k / 10 ^ precision ≡ v .frac * a / c
-    cut-here = cut-ratio (v .frac) k (10 ^ precision) a c (ten-pos precision) p q
-
-    part-times : quotZ (frac *ℤ pos a) (pos c) ≡ fracTimes precision k v
-    unfolding fracTimes
-    part-times = rw cut-here (part-signed a c)
-
-    sum-times : whole *ℤ pos k +ℤ quotZ (frac *ℤ pos a) (pos c) ≡ times precision k v
-    sum-times =
-        rw (times-cut precision k v, cut-here, part-signed a c, mul-signed (v .neg) (v .integer) k)
-        (add-signed (v .neg) (v .integer * k) (v .frac * a / c))
-
-  whole-times : (k : ℕ) → whole *ℤ pos k +ℤ pos 0 ≡ wholeTimes k v
+module _ (x : IntervalAmount) (F : SFits w64 (x .integer)) (b : natAbs (x .frac) < 10 ^ precision) where
+  pub cut-whole : (k : ℕ) → rd w64 (x .integer) *ℤ pos k +ℤ pos 0 ≡ wholeTimes k (valueOf x)
   unfolding wholeTimes
-  whole-times k = rw (add-none (whole *ℤ pos k)) (mul-signed (v .neg) (v .integer) k)
-
-  -- a nanosecond's fraction comes to nothing
-  nanos-alone : v .frac < 10 ^ precision → whole ≡ times precision 1 v
-  nanos-alone h =
-      let e : v .integer * 1 + v .frac * 1 / 10 ^ precision ≡ v .integer = omega arith in
-      rw (times-cut precision 1 v, e)
-
--- the same of an amount x that holds v, as the machine has its parts
-module _ (x : IntervalAmount) (v : Value) (E : x ≡ amountFrom v) (F : SFits w64 (x .integer)) (b : natAbs (x .frac) < 10 ^ precision) where
-  pub whole-is : rd w64 (x .integer) ≡ signed (v .neg) (v .integer)
-  whole-is = toZ-ofZ F ∙ ap (λ (y : IntervalAmount). y .integer) E
-
-  pub cut-whole : (k : ℕ) → rd w64 (x .integer) *ℤ pos k +ℤ pos 0 ≡ wholeTimes k v
-  cut-whole k = rw whole-is (whole-times v k)
-
-  pub whole-fits : some (rd w64 (x .integer)) ≡ fit 63 (times precision 1 v)
-  whole-fits =
-      fit-yes F ∙
-      ap (fit 63) (ap (λ (y : IntervalAmount). y .integer) E ∙ nanos-alone v (omega (arith, ap (λ (y : IntervalAmount). natAbs (y .frac)) E, abs-signed (v .neg) (v .frac))))
+  cut-whole k = rw (toZ-ofZ F) (add-none (x .integer *ℤ pos k))
 
   -- r is its part
   module _ (k a c : ℕ) (h : a ≤ 6048) (p : 0 < c) (q : k * c ≡ a * 10 ^ precision) {r : ℤ} (R : r ≡ quotZ (rd w64 (x .frac) *ℤ pos a) (pos c)) where
-    part-of : rd w64 r ≡ quotZ (signed (v .neg) (v .frac) *ℤ pos a) (pos c)
-    part-of = part-reads (x .frac) b a c h R ∙ ap (λ (y : IntervalAmount). quotZ (y .frac *ℤ pos a) (pos c)) E
+    part-times : rd w64 r ≡ fracTimes precision k (valueOf x)
+    unfolding fracTimes
+    part-times = part-reads (x .frac) b a c h R ∙ sym (frac-ratio (x .frac) k (10 ^ precision) a c (ten-pos precision) p q)
 
-    pub cut-times : rd w64 (x .integer) *ℤ pos k +ℤ rd w64 r ≡ times precision k v
-    cut-times = rw (whole-is, part-of) (sum-times v k a c p q)
+    pub cut-times : SameSign (x .integer) (x .frac) → rd w64 (x .integer) *ℤ pos k +ℤ rd w64 r ≡ times precision k (valueOf x)
+    unfolding wholeTimes
+    cut-times S = rw (toZ-ofZ F, part-times) (sym (times-cut precision k (valueOf x) S))
 
-    -- its size, with the sign of the amount
-    pub cut-signed : rd w64 r ≡ signed (v .neg) (v .frac * a / c)
-    cut-signed = part-of ∙ part-signed v a c
+    -- it has the sign of the whole
+    pub same-sign : SameSign (x .integer) (x .frac) → SameSign (rd w64 (x .integer)) (rd w64 r)
+    same-sign S =
+        record {
+          neg = S .neg;
+          whole = S .whole;
+          part = S .part * a / c;
+          whole-is = toZ-ofZ F ∙ S .whole-is;
+          part-is = part-reads (x .frac) b a c h R ∙ rw (S .part-is) (part-signed (S .neg) (S .part) a c);
+        }
 
     -- it is a count by itself
-    pub cut-days : pos 0 *ℤ pos 1 +ℤ rd w64 r ≡ fracTimes precision k v
-    cut-days = none-add (rd w64 r) ∙ part-of ∙ part-times v k a c p q
+    pub cut-days : pos 0 *ℤ pos 1 +ℤ rd w64 r ≡ fracTimes precision k (valueOf x)
+    cut-days = none-add (rd w64 r) ∙ part-times
 
-    pub cut-fits : some (rd w64 r) ≡ fit 63 (fracTimes precision k v)
+    pub cut-fits : some (rd w64 r) ≡ fit 63 (fracTimes precision k (valueOf x))
     cut-fits =
         let f = part-fits (x .frac) b a c h R in
-        fit-yes f ∙ ap (fit 63) (sym (toZ-ofZ f) ∙ part-of ∙ part-times v k a c p q)
+        fit-yes f ∙ ap (fit 63) (sym (toZ-ofZ f) ∙ part-times)
+
+  -- a nanosecond's fraction comes to nothing
+  no-part : fracTimes precision 1 (valueOf x) ≡ pos 0
+  unfolding fracTimes
+  no-part =
+      abs-zero (quotZ (x .frac *ℤ pos 1) (pos (10 ^ precision))) (omega (arith, abs-quot (x .frac *ℤ pos 1) (10 ^ precision), abs-mul (x .frac) 1))
+
+  pub whole-fits : SameSign (x .integer) (x .frac) → some (rd w64 (x .integer)) ≡ fit 63 (times precision 1 (valueOf x))
+  unfolding wholeTimes
+  whole-fits S =
+      let e : times precision 1 (valueOf x) ≡ x .integer = times-cut precision 1 (valueOf x) S ∙ rw no-part (add-none (x .integer *ℤ pos 1) ∙ times-one (x .integer)) in
+      fit-yes F ∙ ap (fit 63) (sym e)
 
 -- ---- three counts
 
@@ -271,28 +241,29 @@ module _ {x p : ℤ} {k : ℕ} (fx : SFits w64 x) (fp : SFits w64 p) (K : 1 ≤ 
 
 -- ---- a count of 64 bits: x times k, and p, of one sign
 
-module _ {x p : ℤ} {k most : ℕ} (fx : SFits w64 x) (fp : SFits w64 p) (M : Most k most) where
+module _ {x p : ℤ} {k most : ℕ} (fx : SFits w64 x) (fp : SFits w64 p) (M : Most k most) (S : SameSign x p) where
   limit : toZ w64 most ≡ pos most
   limit = toZ-pos w64 {n = most} (omega (arith, M .most-fits))
 
   -- x is beyond the largest
-  far : (neg : Bool) (m j : ℕ) → x ≡ signed neg m → p ≡ signed neg j → most < m → none ≡ fit 63 (x *ℤ pos k +ℤ p)
-  far neg m j e f h =
-      let g : (most + 1) * k ≤ m * k = mul-le-mul-right k (omega arith) in
-      rw (e, f, mul-signed neg m k, add-signed neg (m * k) j) (too-large w64 (m * k + j) neg (omega (arith, M .largest)))
+  far : most < natAbs x → none ≡ fit 63 (x *ℤ pos k +ℤ p)
+  far h =
+      let m = S .whole in
+      let g : (most + 1) * k ≤ m * k = mul-le-mul-right k (omega (arith, ap natAbs (S .whole-is), abs-signed (S .neg) m)) in
+      rw (S .whole-is, S .part-is, mul-signed (S .neg) m k, add-signed (S .neg) (m * k) (S .part)) (too-large w64 (m * k + S .part) (S .neg) (omega (arith, M .largest)))
 
-  pub far-above : ltZ (toZ w64 most) (rd w64 x) ≡ true → (neg : Bool) (m j : ℕ) → x ≡ signed neg m → p ≡ signed neg j → none ≡ fit 63 (x *ℤ pos k +ℤ p)
-  far-above t neg m j e f =
+  pub far-above : ltZ (toZ w64 most) (rd w64 x) ≡ true → none ≡ fit 63 (x *ℤ pos k +ℤ p)
+  far-above t =
       let u : ltZ (pos most) x ≡ true = rw (limit, toZ-ofZ fx) at t in
-      far neg m j e f (omega (arith, lt-yes (pos most) x u, size-pn x, ap natAbs e, abs-signed neg m))
+      far (omega (arith, lt-yes (pos most) x u, size-pn x))
 
   pub limit-flips : SFits w64 (pos 0 -ℤ toZ w64 most)
   limit-flips = size-flips most (M .most-fits)
 
-  pub far-below : ltZ (rd w64 x) (rd w64 (pos 0 -ℤ toZ w64 most)) ≡ true → (neg : Bool) (m j : ℕ) → x ≡ signed neg m → p ≡ signed neg j → none ≡ fit 63 (x *ℤ pos k +ℤ p)
-  far-below t neg m j e f =
+  pub far-below : ltZ (rd w64 x) (rd w64 (pos 0 -ℤ toZ w64 most)) ≡ true → none ≡ fit 63 (x *ℤ pos k +ℤ p)
+  far-below t =
       let u : ltZ x (negℤ (pos most)) ≡ true = rw (toZ-ofZ fx, size-minus most (M .most-fits)) at t in
-      far neg m j e f (omega (arith, lt-yes x (negℤ (pos most)) u, P-neg (pos most), N-neg (pos most), size-pn x, ap natAbs e, abs-signed neg m))
+      far (omega (arith, lt-yes x (negℤ (pos most)) u, P-neg (pos most), N-neg (pos most), size-pn x))
 
   module _ (r : ltZ (toZ w64 most) (rd w64 x) ≡ false) (l : ltZ (rd w64 x) (rd w64 (pos 0 -ℤ toZ w64 most)) ≡ false) where
     near : SFits w64 (x *ℤ pos k)

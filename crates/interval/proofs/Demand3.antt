@@ -1,12 +1,10 @@
--- DEMAND 3: each interval text has exactly one answer, that which Answer.antt computes (`demand3`), and so in the narrowed forms
--- (`year-month`, `day-time`). Assumes nothing.
+-- DEMAND 3, the record `Demand3`, proved for every limit of fraction digits, every default unit and every text by `demand3`. Assumes nothing.
 use mathlib.Core.Path.{_≡_, refl, sym, ap, _∙_}
 use mathlib.Core.Bool.{Bool, true, false, cond, _&&_, _||_, false≢true}
 use mathlib.Core.Logic.{⊎-elim, _↔_}
 use mathlib.Core.List.{List, [], _∷_, _++_}
 use mathlib.Core.Option.{Option, none, some, Option·none-ne-some}
-use Prim.Native.Nat.{ℕ, zero, suc, _*_, _/_, _%_}
-use native.Mathlib.Nat.{zero-div}
+use Prim.Native.Nat.{ℕ, suc, _*_, _/_, _%_}
 use native.Mathlib.Omega.{arith}
 use lib.Dec.{eqb}
 use lib.IntN.{ℤ, pos, negsuc, negℤ, natAbs, _+ℤ_, _*ℤ_}
@@ -18,17 +16,20 @@ use Rattle.text.proofs.Utf8Agrees as Utf8Agrees
 use Rattle.number.specs.Widths.{inSigned}
 use Rattle.number.proofs.Zed.{abs-neg, eq-of, P-neg, N-neg, mul-P, mul-N}
 use Rattle.refusal.specs.Outcome.{Outcome, accepted, refused}
-use Rattle.component.specs.Units.{rank}
-use Rattle.component.specs.Grammar.{Component, Divides}
+use Rattle.unit.specs.Units.{rank}
+use Rattle.component.specs.Grammar.{Value, Amount, Component, Complete, glued, apart, Divides, bare, last, more}
 use Rattle.component.specs.Division.{divide}
 use Rattle.component.specs.Amount.{unitFor}
-use Rattle.component.specs.declared.IntervalUnit.{IntervalUnit}
-use Rattle.component.specs.declared.IntervalUnit.the-variants.{Year, Day}
-use Rattle.component.proofs.Agreement.{agrees, divided-utf8}
-use Rattle.component.proofs.Keying.{same-unit}
-use Rattle.interval.specs.Contribution.{Counts, counts}
-use Rattle.interval.specs.Answer.{gives, fits, plus, zeros, totals, has, twice, onTotals, onDivision, monthDayNano, DayTime, dayTimeOf, toYearMonths, dayTimeFits, toDayTime, orNarrowed, narrowed, yearMonth, dayTime}
-use Rattle.interval.specs.Meaning.{Runs, done, add, Repeats, two, Means, totalled, not-utf8, undivided, repeated, unfit, YearMonths, months-alone, DayTimes, in-days, Narrows, held, unheld, no-counts}
+use Rattle.unit.specs.declared.IntervalUnit.{IntervalUnit}
+use Rattle.unit.specs.declared.IntervalUnit.the-variants.{Year, Day}
+use Rattle.component.proofs.AmountLaws.{amount-value}
+use Rattle.component.proofs.Agreement.{agrees, unique, divided-utf8}
+use Rattle.unit.proofs.Numbering.{same-unit}
+use Rattle.interval.specs.Contribution.{Counts, counts, contribution, fits, plus, zeros}
+use Rattle.interval.specs.Answer.{gives, totals, has, twice, onTotals, onDivision, monthDayNano, toYearMonths, dayTimeFits, toDayTime, orNarrowed, narrowed, yearMonth, dayTime}
+use Rattle.interval.specs.Meaning.{Runs, done, add, Repeats, two, Means, totalled, not-utf8, undivided, repeated, unfit, YearMonths, months-alone, DayTimes, in-days, Narrows, held, unheld, no-counts, DayTime, dayTimeOf}
+use Rattle.interval.proofs.Cuts.{quot-signed}
+use Rattle.interval.proofs.Adding.{abs-zero}
 
 -- ---- a test or an option that is not the one is the other
 
@@ -101,25 +102,45 @@ module _ (u : IntervalUnit) where
 
 -- ---- running totals
 
+-- each component of a list has an amount
+data Amounts (n : ℕ) : List Component → Type 0 where
+  no-more : Amounts n []
+  one-more : {p : Component} {d : List Component} {v : Value} → Amount n (p .amount) v → Amounts n d → Amounts n (p ∷ d)
+
+complete-amounts : {n : ℕ} {t : List ℕ} {c : Component} {d : List Component} → Complete n t c → Amounts n d → Amounts n (c ∷ d)
+complete-amounts (glued A e) M = one-more A M
+complete-amounts (apart A w e) M = one-more A M
+
+amounts : {n : ℕ} {t : List ℕ} {d : List Component} → Divides n t d → Amounts n d
+amounts (bare A) = one-more A no-more
+amounts (last C) = complete-amounts C no-more
+amounts (more C w D) = complete-amounts C (amounts D)
+
 module _ (n : ℕ) (u : IntervalUnit) where
+  -- a component gives the contribution of its amount's value
+  gives-value : (p : Component) {v : Value} → Amount n (p .amount) v → gives n u p ≡ contribution n (unitFor u p) v
+  unfolding gives
+  gives-value p A = rw (amount-value A)
+
+  -- where a contribution k and the totals with it fit, they are added
+  added : (c k : Counts) (d : List Component) → fits k ≡ true → fits (plus c k) ≡ true → cond (fits k && fits (plus c k)) (totals n u (plus c k) d) none ≡ totals n u (plus c k) d
+  added c k d f g = rw (f, g)
+
   runs-totals : {c e : Counts} {d : List Component} → Runs n u c d e → totals n u c d ≡ some e
   unfolding totals
   runs-totals done = refl
-  runs-totals (add f g r) = rw (f, g) (runs-totals r)
+  runs-totals (add {c} {p = p} {d} {v} A f g r) = rw (gives-value p A) (added c (contribution n (unitFor u p) v) d f g ∙ runs-totals r)
 
-  totals-runs : (c e : Counts) (d : List Component) → totals n u c d ≡ some e → Runs n u c d e
+  totals-runs : (c e : Counts) {d : List Component} → Amounts n d → totals n u c d ≡ some e → Runs n u c d e
   unfolding totals
-  totals-runs c e [] h = let q : c ≡ e = cc in rw q done
-  totals-runs c e (p ∷ d) h =
-      by-test (fits (gives n u p))
-      (λ f. by-test (fits (plus c (gives n u p)))
-      (λ g. add f g (totals-runs (plus c (gives n u p)) e d (simp (f, g) at h)))
-      (λ g. absurd (Option·none-ne-some e (simp (f, g) at h))))
-      (λ f. absurd (Option·none-ne-some e (simp f at h)))
-
-  -- the last totals, as a relation and as a computation
-  pub running : (c : Counts) (d : List Component) (e : Counts) → Runs n u c d e ↔ (totals n u c d ≡ some e)
-  running c d e = (runs-totals, totals-runs c e d)
+  totals-runs c e no-more h = let q : c ≡ e = cc in rw q done
+  totals-runs c e (one-more {p} {d} {v} A M) h =
+      let k : Counts = contribution n (unitFor u p) v in
+      by-test (fits k)
+      (λ f. by-test (fits (plus c k))
+      (λ g. add A f g (totals-runs (plus c k) e M (simp (gives-value p A, f, g) at h)))
+      (λ g. absurd (Option·none-ne-some e (simp (gives-value p A, f, g) at h))))
+      (λ f. absurd (Option·none-ne-some e (simp (gives-value p A, f) at h)))
 
 -- ---- the answer
 
@@ -153,12 +174,12 @@ module _ (n : ℕ) (u : IntervalUnit) (t : List ℕ) where
   computed (undivided w f) = rw (Utf8Agrees.agrees t .0 w, none-left (divide n t) (λ d e. f d (agrees n t d .1 e)))
   computed (repeated {d} D r) = divided-answer (agrees n t d .0 D) ∙ rw (repeats-twice u r)
   computed (unfit {d} D once-each f) =
-      divided-answer (agrees n t d .0 D) ∙ rw (once u once-each, none-left (totals n u zeros d) (λ e h. f e (totals-runs n u zeros e d h)))
+      divided-answer (agrees n t d .0 D) ∙ rw (once u once-each, none-left (totals n u zeros d) (λ e h. f e (totals-runs n u zeros e (amounts D) h)))
 
   totals-mean : (d : List Component) → Divides n t d → twice u d ≡ false → (o : Option Counts) → totals n u zeros d ≡ o → Means n u t (onTotals o)
   unfolding onTotals
   totals-mean d D e none h = unfit D (not-twice u e) (λ c R. Option·none-ne-some c (sym h ∙ runs-totals n u R))
-  totals-mean d D e (some c) h = totalled D (not-twice u e) (totals-runs n u zeros c d h)
+  totals-mean d D e (some c) h = totalled D (not-twice u e) (totals-runs n u zeros c (amounts D) h)
 
   units-mean : (d : List Component) → Divides n t d → (b : Bool) → twice u d ≡ b → Means n u t (cond b (refused 9) (onTotals (totals n u zeros d)))
   units-mean d D true e = repeated D (twice-repeats u d e)
@@ -177,13 +198,9 @@ module _ (n : ℕ) (u : IntervalUnit) (t : List ℕ) where
       (λ w. rw w (division-means w (divide n t) refl))
       (λ w. rw w (not-utf8 (λ v. both-ways (utf8 t) w (Utf8Agrees.agrees t .0 v))))
 
--- an answer is the text's exactly where it is the computed one
-pub demand3 : (n : ℕ) (u : IntervalUnit) (t : List ℕ) (r : Outcome Counts) → Means n u t r ↔ (monthDayNano n u t ≡ r)
-demand3 n u t r = (computed n u t, λ e. rw e at (answered n u t))
-
--- a text has one answer
-pub one-answer : {n : ℕ} {u : IntervalUnit} {t : List ℕ} {r q : Outcome Counts} → Means n u t r → Means n u t q → r ≡ q
-one-answer {n} {u} {t} R Q = sym (computed n u t R) ∙ computed n u t Q
+  -- an answer is the text's exactly where it is the computed one
+  pub means : (r : Outcome Counts) → Means n u t r ↔ (monthDayNano n u t ≡ r)
+  means r = (computed, λ e. rw e at answered)
 
 -- ---- narrowed forms: hold computes what Holds says
 
@@ -208,26 +225,18 @@ module _ {A : Type 0} (Holds : Counts → A → Type 0) (hold : Counts → Optio
   pub narrowed-answered : Narrows Holds n u t (narrowed hold (monthDayNano n u t))
   narrowed-answered = outcome-means (monthDayNano n u t) (answered n u t)
 
-  -- and one only
-  pub one-narrowed : {r q : Outcome A} → Narrows Holds n u t r → Narrows Holds n u t q → r ≡ q
-  one-narrowed R Q = sym (narrowed-computed R) ∙ narrowed-computed Q
-
   -- an answer is the text's exactly where it is the computed one
   pub narrows : (r : Outcome A) → Narrows Holds n u t r ↔ (narrowed hold (monthDayNano n u t) ≡ r)
   narrows r = (narrowed-computed, λ e. rw e at narrowed-answered)
 
 -- ---- year-month
 
-abs-zero : (z : ℤ) → eqb (natAbs z) 0 ≡ true → z ≡ pos 0
-abs-zero (pos k) e = ap pos (eqb-true k 0 e)
-abs-zero (negsuc k) e = absurd (omega (arith, eqb-true (suc k) 0 e))
-
 in-months : (c : Counts) (v : ℤ) → toYearMonths c ≡ some v → YearMonths c v
 unfolding toYearMonths
 in-months c v e =
     by-test (eqb (natAbs (c .days)) 0)
     (λ p. by-test (eqb (natAbs (c .nanos)) 0)
-    (λ q. from (c .months) (c .days) (c .nanos) (abs-zero (c .days) p) (abs-zero (c .nanos) q) (rw (p, q) at e))
+    (λ q. from (c .months) (c .days) (c .nanos) (abs-zero (c .days) (eqb-true (natAbs (c .days)) 0 p)) (abs-zero (c .nanos) (eqb-true (natAbs (c .nanos)) 0 q)) (rw (p, q) at e))
     (λ q. absurd (Option·none-ne-some v (rw (p, q) at e))))
     (λ p. absurd (Option·none-ne-some v (rw p at e)))
   where
@@ -238,22 +247,17 @@ is-months : {c : Counts} {v : ℤ} → YearMonths c v → toYearMonths c ≡ som
 unfolding toYearMonths
 is-months months-alone = refl
 
-pub year-month : (n : ℕ) (t : List ℕ) (r : Outcome ℤ) → Narrows YearMonths n Year t r ↔ (yearMonth n t ≡ r)
-unfolding yearMonth
-year-month n t r = narrows YearMonths toYearMonths (λ c v. (is-months, in-months c v)) n Year t r
+pub year-month : (n : ℕ) (u : IntervalUnit) (t : List ℕ) (r : Outcome ℤ) → Narrows YearMonths n u t r ↔ (narrowed toYearMonths (monthDayNano n u t) ≡ r)
+year-month = narrows YearMonths toYearMonths (λ c v. (is-months, in-months c v))
 
 -- ---- day-time
-
-neg-quot : (m k : ℕ) → quotZ (negℤ (pos m)) (pos k) ≡ negℤ (pos (m / k))
-neg-quot zero k = rw zero-div
-neg-quot (suc m) k = refl
 
 -- a multiple of 1,000,000
 quot-back : (k : ℤ) → quotZ (k *ℤ pos 1_000_000) (pos 1_000_000) ≡ k
 quot-back (pos a) = ap pos (omega arith)
 quot-back (negsuc a) =
     let e : suc a * 1_000_000 / 1_000_000 ≡ suc a = omega arith in
-    neg-quot (suc a * 1_000_000) 1_000_000 ∙ rw e
+    quot-signed true (suc a * 1_000_000) 1_000_000 ∙ rw e
 
 no-rest : (k : ℤ) → natAbs (k *ℤ pos 1_000_000) % 1_000_000 ≡ 0
 no-rest (pos a) = omega arith
@@ -265,9 +269,13 @@ multiple (negsuc a) e =
     let q : ℤ = negℤ (pos (suc a / 1_000_000)) in
     eq-of (negsuc a) (q *ℤ pos 1_000_000) (omega (arith, mul-P q 1_000_000, mul-N q 1_000_000, P-neg (pos (suc a / 1_000_000)), N-neg (pos (suc a / 1_000_000))))
 
+module _ (m d k : ℤ) where
+  all-fit : inSigned 31 (m *ℤ pos 30) ≡ true → inSigned 31 (m *ℤ pos 30 +ℤ d) ≡ true → inSigned 31 k ≡ true → toDayTime (counts m d (k *ℤ pos 1_000_000)) ≡ some (dayTimeOf (m *ℤ pos 30 +ℤ d) k)
+  unfolding toDayTime dayTimeFits
+  all-fit p q r = rw (p, q, eq-eqb (natAbs (k *ℤ pos 1_000_000) % 1_000_000) 0 (no-rest k), quot-back k, r)
+
 is-day-time : {c : Counts} {v : DayTime} → DayTimes c v → toDayTime c ≡ some v
-unfolding toDayTime dayTimeFits
-is-day-time (in-days {m} {d} {k} p q r) = rw (p, q, eq-eqb (natAbs (k *ℤ pos 1_000_000) % 1_000_000) 0 (no-rest k), quot-back k, r)
+is-day-time (in-days {m} {d} {k} p q r) = all-fit m d k p q r
 
 in-day-time : (m d k : ℤ) (v : DayTime) → dayTimeFits (counts m d k) ≡ true → dayTimeOf (m *ℤ pos 30 +ℤ d) (quotZ k (pos 1_000_000)) ≡ v → DayTimes (counts m d k) v
 unfolding dayTimeFits
@@ -291,6 +299,63 @@ to-day-time c v e =
     (λ f. let g : some (dayTimeOf (c .months *ℤ pos 30 +ℤ c .days) (quotZ (c .nanos) (pos 1_000_000))) ≡ some v = rw f at e in in-day-time (c .months) (c .days) (c .nanos) v f (cc))
     (λ f. absurd (Option·none-ne-some v (rw f at e)))
 
-pub day-time : (n : ℕ) (t : List ℕ) (r : Outcome DayTime) → Narrows DayTimes n Day t r ↔ (dayTime n t ≡ r)
+pub day-time : (n : ℕ) (u : IntervalUnit) (t : List ℕ) (r : Outcome DayTime) → Narrows DayTimes n u t r ↔ (narrowed toDayTime (monthDayNano n u t) ≡ r)
+day-time = narrows DayTimes toDayTime (λ c v. (is-day-time, to-day-time c v))
+
+-- ---- the demand
+
+-- a division of the text in which no unit comes twice and whose running totals fit, the last of them being e
+pub record Adds (n : ℕ) (u : IntervalUnit) (t : List ℕ) (e : Counts) : Type 0 where
+  pub division : List Component
+  pub divides : Divides n t division
+  pub once-each : Repeats u division → ⊥
+  pub runs : Runs n u zeros division e
+
+-- what is demanded of a text t, for the limit n and the default unit u; its answer is `monthDayNano n u t`, which the readers' contracts name
+pub record Demand3 (n : ℕ) (u : IntervalUnit) (t : List ℕ) : Type 0 where
+  -- at most one division
+  pub one-division : (d e : List Component) → Divides n t d → Divides n t e → d ≡ e
+  -- accepted exactly when there is a division, no unit comes twice, and each contribution and each running total fits
+  pub acceptance : (e : Counts) → (monthDayNano n u t ≡ accepted e) ↔ Adds n u t e
+  -- the answer is the last totals of any division that the text has
+  pub last-totals : (d : List Component) (e : Counts) → monthDayNano n u t ≡ accepted e → Divides n t d → Runs n u zeros d e
+  -- otherwise refused, with the first number that holds
+  pub first-refusal : (k : ℕ) → (monthDayNano n u t ≡ refused k) ↔ Means n u t (refused k)
+  -- exactly one answer: that which is computed, and no other
+  pub one-answer : (r : Outcome Counts) → Means n u t r ↔ (monthDayNano n u t ≡ r)
+  -- the form of months alone
+  pub in-year-months : (r : Outcome ℤ) → Narrows YearMonths n u t r ↔ (narrowed toYearMonths (monthDayNano n u t) ≡ r)
+  -- the form of days and milliseconds
+  pub in-day-times : (r : Outcome DayTime) → Narrows DayTimes n u t r ↔ (narrowed toDayTime (monthDayNano n u t) ≡ r)
+
+module _ (n : ℕ) (u : IntervalUnit) (t : List ℕ) where
+  adds : {e : Counts} → Means n u t (accepted e) → Adds n u t e
+  adds (totalled D once-each R) = record { division = _; divides = D; once-each = once-each; runs = R }
+
+  any-last : (d : List Component) {e : Counts} → Divides n t d → Adds n u t e → Runs n u zeros d e
+  any-last d D A = rw (unique D (A .divides)) (A .runs)
+
+pub demand3 : (n : ℕ) (u : IntervalUnit) (t : List ℕ) → Demand3 n u t
+demand3 n u t =
+    record {
+      one-division = λ d e D E. unique D E;
+      acceptance = λ e. (λ h. adds n u t (means n u t (accepted e) .1 h), λ A. computed n u t (totalled (A .divides) (A .once-each) (A .runs)));
+      last-totals = λ d e h D. any-last n u t d D (adds n u t (means n u t (accepted e) .1 h));
+      first-refusal = λ k. (means n u t (refused k) .1, means n u t (refused k) .0);
+      one-answer = means n u t;
+      in-year-months = year-month n u t;
+      in-day-times = day-time n u t;
+    }
+
+-- ---- the readers: an outcome that is computed is what the text means
+
+pub meant : {n : ℕ} {u : IntervalUnit} {t : List ℕ} {r : Outcome Counts} → r ≡ monthDayNano n u t → (r ≡ monthDayNano n u t) × Means n u t r
+meant {n} {u} {t} {r} e = (e, means n u t r .1 (sym e))
+
+pub year-month-meant : {n : ℕ} {t : List ℕ} {r : Outcome ℤ} → r ≡ yearMonth n t → (r ≡ yearMonth n t) × Narrows YearMonths n Year t r
+unfolding yearMonth
+year-month-meant {n} {t} {r} e = (e, year-month n Year t r .1 (sym e))
+
+pub day-time-meant : {n : ℕ} {t : List ℕ} {r : Outcome DayTime} → r ≡ dayTime n t → (r ≡ dayTime n t) × Narrows DayTimes n Day t r
 unfolding dayTime
-day-time n t r = narrows DayTimes toDayTime (λ c v. (is-day-time, to-day-time c v)) n Day t r
+day-time-meant {n} {t} {r} e = (e, day-time n Day t r .1 (sym e))

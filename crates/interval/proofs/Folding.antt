@@ -1,6 +1,6 @@
 -- A turn of the loop that adds up components: units are marked in a list by their ranks, and the answer from a place on is that of the
 -- whole text. Assumes nothing.
-use mathlib.Core.Path.{_≡_, refl, sym, ap, _∙_}
+use mathlib.Core.Path.{_≡_, refl, sym, _∙_}
 use mathlib.Core.Bool.{Bool, true, false, cond, _||_}
 use mathlib.Core.List.{List}
 use mathlib.Core.Option.{Option, none, some}
@@ -16,21 +16,22 @@ use mir.Facts.{toZ-ofZ}
 use borrow.Author.Tests.{eqb-true, eqb-false}
 use Rattle.text.specs.Utf8.{utf8}
 use Rattle.text.proofs.Bools.{by-test}
-use Rattle.number.specs.Widths.{signed}
 use Rattle.number.proofs.Ranges.{rd}
 use Rattle.refusal.specs.Outcome.{Outcome, refused, numberIn}
-use Rattle.component.specs.Units.{rank}
-use Rattle.component.specs.Grammar.{precision, Component}
+use Rattle.unit.specs.Units.{rank}
+use Rattle.component.specs.Grammar.{precision, Component, valued}
 use Rattle.component.specs.Division.{step, bad, before, divide}
-use Rattle.component.specs.Amount.{Value, amountOf, orElse, unitFor}
-use Rattle.component.specs.Read.{amountFrom, Holds, LastIs, MoreIs}
+use Rattle.unit.specs.Units.{orElse}
+use Rattle.component.specs.Amount.{unitFor}
+use Rattle.component.specs.Read.{Holds, LastIs, MoreIs}
 use Rattle.component.specs.declared.IntervalAmount.{IntervalAmount}
-use Rattle.component.specs.declared.IntervalUnit.{IntervalUnit}
-use Rattle.component.specs.declared.IntervalUnit.the-variants.{Century, Decade, Year, Month, Week, Day, Hour, Minute, Second, Millisecond, Microsecond, Nanosecond}
+use Rattle.unit.specs.declared.IntervalUnit.{IntervalUnit}
+use Rattle.unit.specs.declared.IntervalUnit.the-variants.{Century, Decade, Year, Month, Week, Day, Hour, Minute, Second, Millisecond, Microsecond, Nanosecond}
+use Rattle.component.proofs.AmountLaws.{amount-value}
 use Rattle.component.proofs.Steps.{at-bad, at-last, at-more}
-use Rattle.interval.specs.Contribution.{Counts, contribution}
-use Rattle.interval.specs.Answer.{gives, zeros, onTotals, onDivision, monthDayNano}
-use Rattle.interval.specs.Read.{added, onAdded}
+use Rattle.interval.specs.Contribution.{Counts, contribution, zeros}
+use Rattle.interval.specs.Answer.{gives, onTotals, onDivision, monthDayNano}
+use Rattle.interval.specs.Helpers.{Proper, added, onAdded}
 use Rattle.interval.proofs.Adding.{small-fits}
 use Rattle.interval.proofs.Turns.{mark, unseen, addTo, settle, settle-start, settle-bad, settle-last, settle-more, settle-same}
 use Rattle.interval.proofs.Demand3.{but-eight, eight}
@@ -78,8 +79,9 @@ Goes s u at seen repeated total =
 reads-frac : (a : IntervalAmount) → natAbs (a .frac) < 10 ^ precision → rd w64 (a .frac) ≡ a .frac
 reads-frac a h = toZ-ofZ (small-fits (a .frac) (omega arith))
 
-pub frac-small : (a : IntervalAmount) → natAbs (a .frac) < 10 ^ precision → natAbs (rd w64 (a .frac)) < 10 ^ precision
-frac-small a h = rw (reads-frac a h) h
+-- what the code requires of an amount
+pub proper : (a : IntervalAmount) → SFits w64 (a .integer) → {c : Component} {w : Option IntervalUnit} → Holds precision c a w → Proper (rd w64 (a .integer)) (rd w64 (a .frac))
+proper a F H = rw (toZ-ofZ F, reads-frac a (H .small)) (record { one-sign = H .same-sign; small = H .small })
 
 -- what the code adds is what the definition adds
 added-is : (u : IntervalUnit) (o : Option Counts) (c : Component) → onAdded o (gives precision u c) ≡ addTo precision u o c
@@ -108,23 +110,22 @@ module _ (s : List ℕ) (u : IntervalUnit) where
         sym (eight precision u s n ∙ by-test (utf8 s) (λ p. rw (h, p)) (λ p. rw (h, p)))
 
     -- the amount a of unit v, whose mark is at k, makes the totals t
-    module _ (a : IntervalAmount) (v : IntervalUnit) {k : ℕ} (K : k ≡ rank v) {t : Option Counts} (F : SFits w64 (a .integer)) (T : (x : Value) → rd w64 (a .integer) ≡ signed (x .neg) (x .integer) → rd w64 (a .frac) ≡ signed (x .neg) (x .frac) → t ≡ onAdded total (contribution precision v x)) where
+    module _ (a : IntervalAmount) (v : IntervalUnit) {k : ℕ} (K : k ≡ rank v) {t : Option Counts} (F : SFits w64 (a .integer)) (T : t ≡ onAdded total (contribution precision v (valued (rd w64 (a .integer)) (rd w64 (a .frac))))) where
       -- of a component c
-      totals-are : (c : Component) (w : Option IntervalUnit) → Holds c a w → unitFor u c ≡ v → t ≡ addTo precision u total c
+      totals-are : (c : Component) (w : Option IntervalUnit) → Holds precision c a w → unitFor u c ≡ v → t ≡ addTo precision u total c
       unfolding gives
       totals-are c w H e =
-          let i : rd w64 (a .integer) ≡ amountFrom (amountOf precision (c .amount)) .integer = toZ-ofZ F ∙ ap (λ (y : IntervalAmount). y .integer) (H .amount-is) in
-          let f : rd w64 (a .frac) ≡ amountFrom (amountOf precision (c .amount)) .frac = reads-frac a (H .small) ∙ ap (λ (y : IntervalAmount). y .frac) (H .amount-is) in
-          T (amountOf precision (c .amount)) i f ∙ rw (← e) (added-is u total c)
+          let f : rd w64 (a .frac) ≡ a .frac = reads-frac a (H .small) in
+          T ∙ rw (toZ-ofZ F, f, ← amount-value (H .amount-is), ← e) (added-is u total c)
 
-      pub last-answer : {w : Option IntervalUnit} → LastIs s at a w → v ≡ orElse u w → {r : Outcome Counts} → r ≡ cond (repeated || getD seen k false) (refused 9) (onTotals t) → r ≡ monthDayNano precision u s
+      pub last-answer : {w : Option IntervalUnit} → LastIs precision s at a w → v ≡ orElse u w → {r : Outcome Counts} → r ≡ cond (repeated || getD seen k false) (refused 9) (onTotals t) → r ≡ monthDayNano precision u s
       last-answer {w} L o {r} R =
           let c = L .this in
           let e : unitFor u c ≡ v = L .holds .unit-is u ∙ sym o in
           let n : onDivision precision u (divide precision s) ≡ cond (repeated || getD seen k false) (refused 9) (onTotals t) = G ∙ rw (at-last precision s at (L .stepped), settle-last precision u (seenIn seen) repeated total c, e, K, totals-are c w (L .holds) e) in
           R ∙ sym (but-eight precision u s n (not-eight (repeated || getD seen k false) t))
 
-      pub more-goes : length seen ≡ 12 → {x : ℕ} → MoreIs s at a v x → Goes s u x (set seen k true) (repeated || getD seen k false) t
+      pub more-goes : length seen ≡ 12 → {x : ℕ} → MoreIs precision s at a v x → Goes s u x (set seen k true) (repeated || getD seen k false) t
       unfolding orElse
       more-goes h {x} M =
           let c = M .this in

@@ -20,7 +20,7 @@ use Rattle.number.proofs.Quotients.{quot-fits}
 use Rattle.refusal.specs.Outcome.{Outcome, accepted, refused}
 use Rattle.interval.specs.Contribution.{Counts, counts}
 use Rattle.interval.specs.Answer.{toYearMonths, dayTimeFits, toDayTime, orNarrowed, narrowed}
-use Rattle.interval.specs.Read.{inDays, inMillis, dayTimeIf}
+use Rattle.interval.specs.Helpers.{inDays, inMillis, dayTimeIf}
 use Rattle.interval.proofs.Adding.{small-fits}
 
 -- ---- narrowed by f: a value, none, or a refusal that stands
@@ -61,9 +61,9 @@ module _ (m d n : ℤ) where
   unfolding toYearMonths
   some-nanos h = rw (not-zero w64 n h, and-false (eqb (natAbs d) 0))
 
-  pub months-alone : SFits w32 m → SFits w32 d → SFits w64 n → ofZ w32 d ≡ 0 → ofZ w64 n ≡ 0 → some (rd w32 m) ≡ toYearMonths (counts m d n)
+  pub months-alone : SFits w32 d → SFits w64 n → ofZ w32 d ≡ 0 → ofZ w64 n ≡ 0 → some m ≡ toYearMonths (counts m d n)
   unfolding toYearMonths
-  months-alone fm fd fn h k = rw (toZ-ofZ fm, is-zero w32 fd h, is-zero w64 fn k)
+  months-alone fd fn h k = rw (is-zero w32 fd h, is-zero w64 fn k)
 
 -- ---- months times 30 plus days
 
@@ -71,11 +71,11 @@ some-is : {x y : ℤ} → some x ≡ some y → x ≡ y
 some-is e = cc
 
 -- the months m times 30 fit, as z
-module _ {m d : ℤ} (fm : SFits w32 m) (fd : SFits w32 d) where
-  pub days-fit : {z : ℤ} → some z ≡ fit 31 (rd w32 m *ℤ pos 30) → fit 31 (rd w32 z +ℤ rd w32 d) ≡ inDays m d
+module _ {m : ℤ} (fm : SFits w32 m) (d : ℤ) where
+  pub days-fit : {z : ℤ} → some z ≡ fit 31 (rd w32 m *ℤ pos 30) → fit 31 (rd w32 z +ℤ d) ≡ inDays m d
   unfolding inDays
   days-fit {z} =
-      rw (toZ-ofZ fm, toZ-ofZ fd) (λ e. by-test (inSigned 31 (m *ℤ pos 30))
+      rw (toZ-ofZ fm) (λ e. by-test (inSigned 31 (m *ℤ pos 30))
       (λ h.
       let q : z ≡ m *ℤ pos 30 = some-is (e ∙ rw h) in
       let f : SFits w32 (m *ℤ pos 30) = record { sfits = ltb-true (mag (m *ℤ pos 30)) (2 ^ 31) h } in

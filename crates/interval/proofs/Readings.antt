@@ -1,7 +1,7 @@
 -- Readings of the definitions: document 01's interval readings that are not marked P, and others that reach each unit, each sign, and each
 -- limit on both sides. Assumes nothing.
-use mathlib.Core.Path.{_≡_, refl}
-use mathlib.Core.List.{List, [], _∷_, _++_, map}
+use mathlib.Core.Path.{refl}
+use mathlib.Core.List.{List, [], _∷_, _++_}
 use Prim.Native.Nat.{ℕ}
 use Prim.Native.String.{String}
 use lib.IntN.{ℤ, pos, negℤ}
@@ -10,14 +10,16 @@ use Rattle.text.specs.Utf8.{encode, wellFormed}
 use Rattle.text.specs.WhiteSpace.{white1, white2, white3, whiteOf}
 use Rattle.refusal.specs.Outcome.{Outcome, accepted, refused}
 use Rattle.text.specs.Quoted.{bytes}
-use Rattle.component.specs.Units.{rank, spellings, same, oneOf, find, low, kelvin, lower, unitOf, present, isUnit}
-use Rattle.component.specs.Grammar.{precision, wholeFits}
-use Rattle.component.specs.Division.{negative, signLen, pointLen, digitsLen, amountLen, wordLen, endStep, unitStep, restStep, amountStep, step, before, then, divideBy, divide}
-use Rattle.component.specs.Amount.{fracOf, unsignedOf, amountOf, orElse, spelled, unitFor}
-use Rattle.component.specs.declared.IntervalUnit.{IntervalUnit}
-use Rattle.component.specs.declared.IntervalUnit.the-variants.{Century, Month, Nanosecond}
-use Rattle.interval.specs.Contribution.{Counts, counts, times, wholeTimes, fracTimes, contribution}
-use Rattle.interval.specs.Answer.{gives, fits, plus, totals, has, twice, onTotals, onDivision, monthDayNano, DayTime, dayTimeOf, toYearMonths, dayTimeFits, toDayTime, orNarrowed, narrowed, yearMonth, dayTime, plainMonthDayNano}
+use Rattle.text.proofs.Table.{Row, row, Readings}
+use Rattle.unit.specs.Units.{rank, spellings, same, oneOf, find, low, kelvin, lower, unitOf, present, isUnit, wordLen, orElse}
+use Rattle.component.specs.Grammar.{precision, wholeFits, scaled}
+use Rattle.component.specs.Division.{negative, signLen, pointLen, digitsLen, amountLen, endStep, unitStep, restStep, amountStep, step, before, then, divideBy, divide}
+use Rattle.component.specs.Amount.{fracOf, unsignedOf, amountOf, spelled, unitFor}
+use Rattle.unit.specs.declared.IntervalUnit.{IntervalUnit}
+use Rattle.unit.specs.declared.IntervalUnit.the-variants.{Century, Month, Nanosecond}
+use Rattle.interval.specs.Contribution.{Counts, counts, times, wholeTimes, fracTimes, contribution, fits, plus}
+use Rattle.interval.specs.Answer.{gives, totals, has, twice, onTotals, onDivision, monthDayNano, toYearMonths, dayTimeFits, toDayTime, orNarrowed, narrowed, yearMonth, dayTime, plainMonthDayNano}
+use Rattle.interval.specs.Meaning.{DayTime, dayTimeOf}
 
 -- an answer in one of the forms
 pub data Said : Type 0 where
@@ -25,42 +27,32 @@ pub data Said : Type 0 where
   in-months : Outcome ℤ → Said
   in-days : Outcome DayTime → Said
 
--- a reader, a text, and the answer
-pub data Row : Type 0 where
-  row : (List ℕ → Said) → List ℕ → Said → Row
-
-abbrev computed : Row → Said
-computed (row reader t r) = reader t
-
-abbrev told : Row → Said
-told (row reader t r) = r
-
 -- the plain month-day-nano reader
-abbrev plain : List ℕ → Outcome Counts → Row
-plain t r = row (λ s. in-counts (plainMonthDayNano precision s)) t (in-counts r)
+abbrev plain : List ℕ → Outcome Counts → Row Said
+plain t r = row (in-counts (plainMonthDayNano precision t)) (in-counts r)
 
 -- it reads months, days and nanoseconds
-abbrev reads : String → ℤ → ℤ → ℤ → Row
+abbrev reads : String → ℤ → ℤ → ℤ → Row Said
 reads t m d n = plain (bytes t) (accepted (counts m d n))
 
 -- it refuses
-abbrev refuses : String → ℕ → Row
+abbrev refuses : String → ℕ → Row Said
 refuses t k = plain (bytes t) (refused k)
 
 -- the reader with a limit of fraction digits and a default unit
-abbrev config : ℕ → IntervalUnit → String → Outcome Counts → Row
-config n u t r = row (λ s. in-counts (monthDayNano n u s)) (bytes t) (in-counts r)
+abbrev config : ℕ → IntervalUnit → String → Outcome Counts → Row Said
+config n u t r = row (in-counts (monthDayNano n u (bytes t))) (in-counts r)
 
-abbrev year-month : String → Outcome ℤ → Row
-year-month t r = row (λ s. in-months (yearMonth precision s)) (bytes t) (in-months r)
+abbrev year-month : String → Outcome ℤ → Row Said
+year-month t r = row (in-months (yearMonth precision (bytes t))) (in-months r)
 
-abbrev day-time : String → Outcome DayTime → Row
-day-time t r = row (λ s. in-days (dayTime precision s)) (bytes t) (in-days r)
+abbrev day-time : String → Outcome DayTime → Row Said
+day-time t r = row (in-days (dayTime precision (bytes t))) (in-days r)
 
 abbrev minus : ℕ → ℤ
 minus k = negℤ (pos k)
 
-abbrev rows : List Row
+abbrev rows : List (Row Said)
 rows =
     -- document 01, "Readings on either side"
     reads "1.000000000000000 days" (pos 0) (pos 1) (pos 0) ∷
@@ -171,6 +163,6 @@ rows =
     day-time "-1.5 ms" (refused 11) ∷
     []
 
-pub readings : map computed rows ≡ map told rows
-unfolding value run wellFormed white1 white2 white3 whiteOf rank spellings same oneOf find low kelvin lower unitOf present isUnit wholeFits negative signLen pointLen digitsLen amountLen wordLen endStep unitStep restStep amountStep step before then divideBy divide fracOf unsignedOf amountOf times wholeTimes fracTimes contribution orElse spelled unitFor gives fits plus totals has twice onTotals onDivision monthDayNano toYearMonths dayTimeFits toDayTime orNarrowed narrowed yearMonth dayTime plainMonthDayNano
+pub readings : Readings rows
+unfolding value run wellFormed white1 white2 white3 whiteOf rank spellings same oneOf find low kelvin lower unitOf present isUnit wholeFits negative signLen pointLen digitsLen amountLen wordLen endStep unitStep restStep amountStep step before then divideBy divide scaled fracOf unsignedOf amountOf times wholeTimes fracTimes contribution orElse spelled unitFor gives fits plus totals has twice onTotals onDivision monthDayNano toYearMonths dayTimeFits toDayTime orNarrowed narrowed yearMonth dayTime plainMonthDayNano
 readings = refl

@@ -8,13 +8,13 @@ use Prim.Native.Nat.{ℕ}
 use lib.Dec.{eqb}
 use Rattle.text.proofs.Bools.{by-test}
 use Rattle.refusal.specs.Outcome.{Outcome, refused}
-use Rattle.component.specs.Units.{rank}
+use Rattle.unit.specs.Units.{rank}
 use Rattle.component.specs.Grammar.{Component}
 use Rattle.component.specs.Division.{before}
 use Rattle.component.specs.Amount.{unitFor}
-use Rattle.component.specs.declared.IntervalUnit.{IntervalUnit}
-use Rattle.interval.specs.Contribution.{Counts}
-use Rattle.interval.specs.Answer.{gives, fits, plus, zeros, totals, has, twice, onTotals, onDivision}
+use Rattle.unit.specs.declared.IntervalUnit.{IntervalUnit}
+use Rattle.interval.specs.Contribution.{Counts, fits, plus, zeros}
+use Rattle.interval.specs.Answer.{gives, totals, has, twice, onTotals, onDivision}
 
 -- ---- units seen
 

@@ -11,29 +11,18 @@ use lib.Signed.{quotZ}
 use Rattle.text.specs.Utf8.{utf8}
 use Rattle.number.specs.Widths.{inSigned}
 use Rattle.refusal.specs.Outcome.{Outcome, accepted, refused}
-use Rattle.component.specs.Units.{rank}
+use Rattle.unit.specs.Units.{rank}
 use Rattle.component.specs.Grammar.{Component}
 use Rattle.component.specs.Division.{divide}
 use Rattle.component.specs.Amount.{amountOf, unitFor}
-use Rattle.component.specs.declared.IntervalUnit.{IntervalUnit}
-use Rattle.component.specs.declared.IntervalUnit.the-variants.{Year, Month, Day}
-use Rattle.interval.specs.Contribution.{Counts, counts, contribution}
+use Rattle.unit.specs.declared.IntervalUnit.{IntervalUnit}
+use Rattle.unit.specs.declared.IntervalUnit.the-variants.{Year, Month, Day}
+use Rattle.interval.specs.Contribution.{Counts, contribution, fits, plus, zeros}
+use Rattle.interval.specs.Meaning.{DayTime, dayTimeOf}
 
 -- the contribution of a component
 unfoldable pub gives : ℕ → IntervalUnit → Component → Counts
 gives n u c = contribution n (unitFor u c) (amountOf n (c .amount))
-
--- months and days fit 32 signed bits, nanoseconds 64
-unfoldable pub fits : Counts → Bool
-fits c = inSigned 31 (c .months) && (inSigned 31 (c .days) && inSigned 63 (c .nanos))
-
--- the sum, count by count
-unfoldable pub plus : Counts → Counts → Counts
-plus c k = counts (c .months +ℤ k .months) (c .days +ℤ k .days) (c .nanos +ℤ k .nanos)
-
--- running totals start here
-abbrev pub zeros : Counts
-zeros = counts (pos 0) (pos 0) (pos 0)
 
 -- the last totals, from c on, if each contribution and each running total fits
 unfoldable pub totals : ℕ → IntervalUnit → Counts → List Component → Option Counts
@@ -65,15 +54,6 @@ unfoldable pub monthDayNano : ℕ → IntervalUnit → List ℕ → Outcome Coun
 monthDayNano n u t = cond (utf8 t) (onDivision n u (divide n t)) (refused 1)
 
 -- ---- the narrowed forms
-
--- what day-time answers: days and milliseconds
-pub record DayTime : Type 0 where
-  pub days : ℤ
-  pub millis : ℤ
-
--- one of them
-abbrev pub dayTimeOf : ℤ → ℤ → DayTime
-dayTimeOf d m = record { days = d; millis = m }
 
 -- the total months, where days and nanoseconds are 0
 unfoldable pub toYearMonths : Counts → Option ℤ

@@ -1,12 +1,14 @@
 -- What a component contributes: document 01, "Interval grammar", the table of units. A fraction goes to the count that the table names,
 -- cut toward zero, and no further. PostgreSQL 15, section 8.5.4, instead rounds fractions of a year to months, and spills those of a
 -- month into days and microseconds and those of a week into days. The limit n is the most digits behind a point. Assumes nothing.
-use Prim.Native.Nat.{ℕ, _+_, _*_, _/_, _^_}
-use lib.IntN.{ℤ, pos}
-use Rattle.number.specs.Widths.{signed}
-use Rattle.component.specs.Amount.{Value}
-use Rattle.component.specs.declared.IntervalUnit.{IntervalUnit}
-use Rattle.component.specs.declared.IntervalUnit.the-variants.{Century, Decade, Year, Month, Week, Day, Hour, Minute, Second, Millisecond, Microsecond, Nanosecond}
+use mathlib.Core.Bool.{Bool, _&&_}
+use Prim.Native.Nat.{ℕ, _^_}
+use lib.IntN.{ℤ, pos, _+ℤ_, _*ℤ_}
+use lib.Signed.{quotZ}
+use Rattle.number.specs.Widths.{inSigned}
+use Rattle.component.specs.Grammar.{Value}
+use Rattle.unit.specs.declared.IntervalUnit.{IntervalUnit}
+use Rattle.unit.specs.declared.IntervalUnit.the-variants.{Century, Decade, Year, Month, Week, Day, Hour, Minute, Second, Millisecond, Microsecond, Nanosecond}
 use Rattle.interval.specs.declared.Interval.{Interval}
 
 -- the three counts, each apart
@@ -23,17 +25,17 @@ counts m d n = record { months = m; days = d; nanos = n }
 abbrev pub countsOf : Interval → Counts
 countsOf i = counts (i .months .0) (i .days .0) (i .nanos .0)
 
--- the amount times k, cut toward zero
+-- "a times" k, "cut toward zero"; an amount counts its whole part and the fraction, which is kept times 10^n
 unfoldable pub times : ℕ → ℕ → Value → ℤ
-times n k a = signed (a .neg) ((a .integer * 10 ^ n + a .frac) * k / 10 ^ n)
+times n k a = quotZ ((a .integer *ℤ pos (10 ^ n) +ℤ a .frac) *ℤ pos k) (pos (10 ^ n))
 
--- its whole part times k
+-- "whole part times" k
 unfoldable pub wholeTimes : ℕ → Value → ℤ
-wholeTimes k a = signed (a .neg) (a .integer * k)
+wholeTimes k a = a .integer *ℤ pos k
 
--- its fraction times k, cut toward zero
+-- "fraction times" k, "cut"
 unfoldable pub fracTimes : ℕ → ℕ → Value → ℤ
-fracTimes n k a = signed (a .neg) (a .frac * k / 10 ^ n)
+fracTimes n k a = quotZ (a .frac *ℤ pos k) (pos (10 ^ n))
 
 -- document 01's table
 unfoldable pub contribution : ℕ → IntervalUnit → Value → Counts
@@ -49,3 +51,17 @@ contribution n Second a = counts (pos 0) (pos 0) (times n 1_000_000_000 a)
 contribution n Millisecond a = counts (pos 0) (pos 0) (times n 1_000_000 a)
 contribution n Microsecond a = counts (pos 0) (pos 0) (times n 1_000 a)
 contribution n Nanosecond a = counts (pos 0) (pos 0) (times n 1 a)
+
+-- ---- sums
+
+-- months and days fit 32 signed bits, nanoseconds 64
+unfoldable pub fits : Counts → Bool
+fits c = inSigned 31 (c .months) && (inSigned 31 (c .days) && inSigned 63 (c .nanos))
+
+-- the sum, "count by count"
+unfoldable pub plus : Counts → Counts → Counts
+plus c k = counts (c .months +ℤ k .months) (c .days +ℤ k .days) (c .nanos +ℤ k .nanos)
+
+-- "running totals start at 0, 0, 0"
+abbrev pub zeros : Counts
+zeros = counts (pos 0) (pos 0) (pos 0)

@@ -6,15 +6,16 @@ use crate::IntervalRead;
 use crate::Months;
 use crate::Nanos;
 use crate::Sum;
-use component::IntervalUnit;
 use component::Piece;
 use refusal::Refusal;
+use unit::IntervalUnit;
 ghost use mathlib.Core.Path.{_≡_};
 ghost use mathlib.Core.Bool.{cond};
 ghost use Rattle.refusal.specs.Outcome.{refused};
 ghost use Rattle.component.specs.Grammar.{precision};
 ghost use Rattle.interval.specs.Answer.{onTotals, monthDayNano};
-ghost use Rattle.interval.specs.Read.{sumOf, intervalOutcome};
+ghost use Rattle.interval.specs.Read.{intervalOutcome};
+ghost use Rattle.interval.specs.Helpers.{sumOf};
 
 // The answer where the text is read to its end: a repeated unit comes before a count that does not fit.
 pub fn settled(repeated: bool, total: Sum) -> IntervalRead
@@ -24,16 +25,7 @@ pub fn settled(repeated: bool, total: Sum) -> IntervalRead
         return IntervalRead::Refused(Refusal::RepeatedUnit);
     }
     match total {
-        Sum::Fits(interval) => {
-            let months = interval.months;
-            let days = interval.days;
-            let nanos = interval.nanos;
-            IntervalRead::Value(Interval {
-                months: Months(months.0),
-                days: Days(days.0),
-                nanos: Nanos(nanos.0),
-            })
-        }
+        Sum::Fits(interval) => IntervalRead::Value(interval),
         Sum::Over => IntervalRead::Refused(Refusal::Overflow),
     }
 }
@@ -51,7 +43,10 @@ pub fn parse_interval_components(value: &[u8], default_unit: IntervalUnit) -> In
         nanos: Nanos(0),
     });
     loop {
-        match component::component(value, at) {
+        let taken = component::component(value, at);
+        at = taken.at;
+        let piece = taken.piece;
+        match piece {
             Piece::Bad => {
                 return IntervalRead::Refused(Refusal::Interval.of(value));
             }
@@ -62,21 +57,20 @@ pub fn parse_interval_components(value: &[u8], default_unit: IntervalUnit) -> In
                 let frac = amount.frac;
                 return settled(repeated | seen[k], total.add(integer, frac, unit));
             }
-            Piece::More(amount, unit, next) => {
+            Piece::More(amount, unit, _) => {
                 let k = unit.mark();
                 repeated = repeated | seen[k];
                 seen[k] = true;
                 let integer = amount.integer;
                 let frac = amount.frac;
                 total = total.add(integer, frac, unit);
-                at = next;
             }
         }
     }
 }
 
 impl Interval {
-    pub fn parse(value: &[u8], config: IntervalParseConfig) -> IntervalRead
+    pub(crate) fn parse(value: &[u8], config: IntervalParseConfig) -> IntervalRead
         ensures { λ r. ⌜ intervalOutcome r ≡ monthDayNano precision (config .«default_unit») (now (value .entry)) ⌝ }
     {
         let default_unit = config.default_unit;

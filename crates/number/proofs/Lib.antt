@@ -3,7 +3,6 @@ pub mod Zed
 pub mod Ranges
 pub mod Sums
 pub mod Sizes
-pub mod Products
 pub mod Narrowing
 pub mod Quotients
 pub mod Reading

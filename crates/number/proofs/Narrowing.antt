@@ -65,6 +65,15 @@ module _ {w : Width} {x : ℤ} (f : SFits w x) (v : Width) where
   pub nat-narrowed : ltZ (rd w x) (pos 0) ≡ false → ltZ (pos (2 ^ bits v - 1)) (rd w x) ≡ false → some (pos (natAbs (rd w x))) ≡ fitUnsigned (bits v) x
   nat-narrowed = rw (toZ-ofZ f) (λ t u. nat-in v x t u .1)
 
+-- ---- a number z of width w that fits the signed width v too, as it is cast to v
+
+module _ {w v : Width} {z : ℤ} (f : SFits w z) (g : SFits v z) where
+  pub cast-fits : SFits v (rd w z)
+  cast-fits = rw (toZ-ofZ f) g
+
+  pub cast-is : rd v (rd w z) ≡ z
+  cast-is = rw (toZ-ofZ f, toZ-ofZ g)
+
 -- ---- two numbers of width w at a larger width v
 
 mag-mul : (a b : ℤ) → mag (a *ℤ b) ≤ natAbs a * natAbs b
@@ -83,7 +92,7 @@ module _ {w : Width} (v : Width) {a b : ℤ} (fa : SFits w a) (fb : SFits w b) w
 
 -- each is cast to v, and the result is read back there
 pub widens : {w v : Width} {a : ℤ} → SFits w a → T (leb (hbits w) (hbits v)) → SFits v (rd w a)
-widens f l = rw (toZ-ofZ f) (sfits-widen l f)
+widens f l = cast-fits f (sfits-widen l f)
 
 module _ {w v : Width} {a b : ℤ} (fa : SFits w a) (fb : SFits w b) (l : T (leb (hbits w) (hbits v))) (op : ℤ → ℤ → ℤ) (f : SFits v (op a b)) where
   pub wide-fits : SFits v (op (rd v (rd w a)) (rd v (rd w b)))

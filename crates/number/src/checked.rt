@@ -2,7 +2,6 @@
 use crate::Int32;
 use crate::Int64;
 use crate::Nat32;
-use crate::sign;
 ghost use mathlib.Core.Path.{_≡_};
 ghost use lib.IntN.{_+ℤ_, _*ℤ_};
 ghost use Rattle.number.specs.Widths.{fit, fitUnsigned, int32, int64, nat32};
@@ -23,21 +22,6 @@ pub fn add_checked_i64(a: i64, b: i64) -> Int64
             Int64::None
         }
     }
-}
-
-pub fn mul_checked_i64(a: i64, b: i64) -> Int64
-    ensures { λ r. ⌜ int64 r ≡ fit 63 (a *ℤ b) ⌝ }
-{
-    let m = sign::magnitude(a);
-    let n = sign::magnitude(b);
-    if m == 0 {
-        return Int64::Some(0);
-    }
-    if 9223372036854775808 / m < n {
-        return Int64::None;
-    }
-    let neg = (a < 0) != (b < 0);
-    sign::signed_i64(neg, m * n)
 }
 
 // A 64-bit number as one of 32 bits, where it fits: Rust's `i32::try_from`.

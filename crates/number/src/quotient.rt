@@ -1,8 +1,7 @@
-// Quotients of nanoseconds by a positive constant, toward zero and down.
+// Quotients of nanoseconds by a positive constant, toward zero.
 ghost use mathlib.Core.Path.{_≡_};
 ghost use lib.IntN.{pos};
 ghost use lib.Signed.{quotZ};
-ghost use Rattle.number.specs.Widths.{floor};
 
 // Nanoseconds in whole microseconds, toward zero.
 pub fn to_micros(nanos: i64) -> i64
@@ -23,15 +22,4 @@ pub fn to_seconds(nanos: i64) -> i64
     ensures { λ r. ⌜ r ≡ quotZ nanos (pos 1000000000) ⌝ }
 {
     nanos / 1_000_000_000
-}
-
-// Nanoseconds in whole milliseconds, rounded down.
-pub fn to_millis_floor(nanos: i64) -> i64
-    ensures { λ r. ⌜ r ≡ floor nanos 1000000 ⌝ }
-{
-    if 0 <= nanos {
-        nanos / 1_000_000
-    } else {
-        (nanos + 1) / 1_000_000 - 1
-    }
 }

@@ -1,8 +1,8 @@
 // The answer of each reader.
 use crate::columns;
 use crate::intervals;
-use crate::line;
 use crate::show;
+use lines::input::find;
 
 pub fn of(name: &[u8], text: &[u8]) {
     if columns::of(name, text) {
@@ -49,26 +49,30 @@ fn ground(name: &[u8], text: &[u8]) {
 
 // The day number of a year, a month and a day, parted by spaces.
 fn day(text: &[u8]) {
-    let a = line::find(text, 0, b' ');
+    let a = find(text, b' ');
     if text.len() <= a {
         show::bytes(b"no month");
         return;
     }
-    let b = line::find(text, a + 1, b' ');
-    if text.len() <= b {
-        show::bytes(b"no day");
-        return;
-    }
-    let from_month = a + 1;
-    let from_day = b + 1;
     let number::Int32::Some(year) = number::parse::parse_i32(&text[..a]) else {
         show::bytes(b"no year");
         return;
     };
-    let number::Nat32::Some(month) = number::parse::parse_u32(&text[from_month..b]) else {
+    let from_month = a + 1;
+    day_of_year(year, &text[from_month..]);
+}
+
+fn day_of_year(year: i32, text: &[u8]) {
+    let b = find(text, b' ');
+    if text.len() <= b {
+        show::bytes(b"no day");
+        return;
+    }
+    let number::Nat32::Some(month) = number::parse::parse_u32(&text[..b]) else {
         show::bytes(b"no month");
         return;
     };
+    let from_day = b + 1;
     let number::Nat32::Some(day_of_month) = number::parse::parse_u32(&text[from_day..]) else {
         show::bytes(b"no day");
         return;

@@ -27,7 +27,7 @@ fn stamp(name: &[u8], text: &[u8]) -> bool {
         return true;
     }
     if check::same(name, b"site") {
-        show::read64(timestamp::site::site_stamp(text));
+        show::read64(site::site_stamp(text));
         return true;
     }
     if check::same(name, b"ts_ns") {

@@ -1,10 +1,10 @@
 // Intervals. `of` tells whether the name is one of their readers.
 use crate::show;
-use component::IntervalUnit;
-use component::UnitRead;
 use interval::DayTimeRead;
 use interval::IntervalParseConfig;
 use interval::IntervalRead;
+use lines::names::default_unit;
+use unit::UnitRead;
 
 pub fn of(name: &[u8], text: &[u8]) -> bool {
     if check::same(name, b"interval") {
@@ -26,17 +26,6 @@ pub fn of(name: &[u8], text: &[u8]) -> bool {
         }
         UnitRead::None => false,
     }
-}
-
-// The default unit that a name such as `in_days` tells.
-fn default_unit(name: &[u8]) -> UnitRead {
-    if name.len() < 3 {
-        return UnitRead::None;
-    }
-    if (name[0] == b'i') & (name[1] == b'n') & (name[2] == b'_') {
-        return IntervalUnit::from_str(&name[3..]);
-    }
-    UnitRead::None
 }
 
 fn config(text: &[u8], default_unit: IntervalUnit) {

@@ -2,12 +2,11 @@
 // that begins with # are written as they are.
 mod answer;
 mod columns;
+mod input;
 mod intervals;
 mod line;
 mod show;
 
 fn main() {
-    let mut space = io::large_buffer();
-    let n = io::read_full(0, &mut space);
-    line::each(&space[..n]);
+    input::all();
 }

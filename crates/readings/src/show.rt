@@ -1,4 +1,7 @@
 // What is written: to standard output, with no line end.
+use lines::output::put_signed;
+use lines::output::put_signed32;
+
 pub fn bytes(s: &[u8]) {
     io::write_all(1, s);
 }
@@ -8,14 +11,15 @@ pub fn count(n: usize) {
 }
 
 pub fn signed(z: i64) {
-    if z < 0 {
-        bytes(b"-");
-    }
-    io::print_decimal(1, number::sign::magnitude(z));
+    let mut space = io::buffer();
+    let n = put_signed(z, 0, &mut space);
+    bytes(&space[..n]);
 }
 
 pub fn signed32(z: i32) {
-    signed(z as i64);
+    let mut space = io::buffer();
+    let n = put_signed32(z, 0, &mut space);
+    bytes(&space[..n]);
 }
 
 pub fn yes_or_no(test: bool) {

@@ -13,9 +13,9 @@ use column::times::Time32MillisecondType;
 use column::times::Time32SecondType;
 use column::times::Time64MicrosecondType;
 use column::times::Time64NanosecondType;
-use component::IntervalUnit;
-use component::UnitRead;
 use interval::IntervalParseConfig;
+use lines::names::default_unit;
+use unit::UnitRead;
 ghost use Rattle.io.specs.Counts.{Counts};
 
 pub fn of(name: &[u8], text: &[u8], out: &mut [u8]) -> usize
@@ -85,15 +85,4 @@ fn date_or_interval(name: &[u8], text: &[u8], out: &mut [u8]) -> usize
         ),
         UnitRead::None => 0,
     }
-}
-
-// The default unit that a name such as `in_days` tells.
-fn default_unit(name: &[u8]) -> UnitRead {
-    if name.len() < 3 {
-        return UnitRead::None;
-    }
-    if (name[0] == b'i') & (name[1] == b'n') & (name[2] == b'_') {
-        return IntervalUnit::from_str(&name[3..]);
-    }
-    UnitRead::None
 }

@@ -9,7 +9,7 @@ use native.Mathlib.Nat.{add-assoc}
 use lib.Dec.{ltb, leb, eqb}
 use lib.ListN.{getD, drop, length, List·getD-eq-default}
 use lib.Seq.{getD-drop}
-use borrow.Author.Tests.{leb-true, leb-false, lt-ltb, eqb-true, eqb-false, eq-eqb, ne-eqb}
+use borrow.Author.Tests.{leb-true, leb-false, lt-ltb, ltb-true, ltb-false, eqb-true, eqb-false, eq-eqb, ne-eqb}
 use Rattle.text.specs.Digits.{isDigit, digitOf, twoDigits, twoAt}
 use Rattle.text.proofs.Bools.{and-left, and-right, and-false, by-test, within-is}
 use Rattle.text.proofs.DigitLaws.{is-digit, no-digit, is-worth}
@@ -27,6 +27,12 @@ no-digit-test b fb =
     by-test (leb 10 (digitOf b))
     (λ t. rw (t, no-digit b (digitOf b) fb refl (leb-true 10 (digitOf b) t)))
     (λ t. rw (t, is-digit b (digitOf b) fb refl (leb-false 10 (digitOf b) t)))
+
+pub digit-below : (b d : ℕ) → b < 256 → d ≡ digitOf b → ltb d 10 ≡ isDigit b
+digit-below b d fb e =
+    by-test (ltb d 10)
+    (λ t. rw (t, is-digit b d fb e (ltb-true d 10 t)))
+    (λ t. rw (t, no-digit b d fb e (ltb-false d 10 t)))
 
 -- ---- two digits at a place
 

@@ -1,4 +1,4 @@
--- What the contracts of `text` cite.
+-- What a reviewer must believe: digits, UTF-8, white space and trimming, and texts in quotes. No definition is a private helper's alone.
 pub mod Digits
 pub mod Quoted
 pub mod Utf8

@@ -5,6 +5,21 @@ ghost use Prim.Native.Nat.{_+_, _≤_};
 ghost use lib.ListN.{length, drop};
 ghost use Rattle.text.specs.Digits.{digitOf, run, twoDigits, twoAt};
 
+// The separators of dates and times as digits: each byte less 48, wrapping.
+pub const HYPHEN: u8 = 253;
+
+pub const POINT: u8 = 254;
+
+pub const COLON: u8 = 10;
+
+pub const CAPITAL_T: u8 = 36;
+
+pub const SMALL_T: u8 = 68;
+
+pub const CAPITAL_Z: u8 = 42;
+
+pub const SPACE: u8 = 240;
+
 // A byte less 48, wrapping: below 10 for a digit, at 10 or above for any other byte.
 pub fn digit(b: u8) -> u8
     ensures { λ r. ⌜ r ≡ digitOf b ⌝ }

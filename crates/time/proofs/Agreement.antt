@@ -18,11 +18,13 @@ use Rattle.text.specs.Utf8.{utf8, ascii}
 use Rattle.text.proofs.Bools.{and-left, and-right, and-false, or-cases, by-test, fails, holds-not}
 use Rattle.text.proofs.Utf8Agrees as utf
 use Rattle.text.proofs.Ascii.{ascii-nil, ascii-cons, ascii-append, ascii-utf8}
-use Rattle.timestamp.specs.Clock.{Clock, clock, inRange, nanosFrom, nanosOf, sinceMidnight}
-use Rattle.timestamp.specs.Grammar.{Figures, Secfrac, no-fraction, fraction}
-use Rattle.timestamp.proofs.Shapes.{all-digits, digits-head, by-one, by-two, one-figure, two-figures, one-value, two-value, not-sign, size-of, last-of, last-figure, seconds-end}
-use Rattle.timestamp.proofs.Agreement.{clash, none-some, both, ascii-figures, ascii-secfrac}
-use Rattle.timestamp.proofs.Refusals.{same}
+use Rattle.clock.specs.Clock.{Clock, clock, inRange, nanosOf, sinceMidnight}
+use Rattle.clock.specs.Grammar.{Figures, Secfrac, no-fraction, fraction}
+use Rattle.refusal.proofs.Outcomes.{clash, same}
+use Rattle.text.proofs.DigitLists.{all-digits, digits-head, one-value, two-value}
+use Rattle.text.proofs.Logic.{none-some, both}
+use Rattle.text.proofs.Places.{not-sign, last-of}
+use Rattle.clock.proofs.Figures.{by-one, by-two, one-figure, two-figures, size-of, last-figure, seconds-end, ascii-figures, ascii-secfrac}
 use Rattle.time.specs.Grammar.{Hour, one, two, Written, minutes, seconds, Letter, upper, lower, TimeOfDay, full, Reads, reads, Refuses, not-utf8, no-time}
 use Rattle.time.specs.Grammar as Grammar
 use Rattle.time.specs.declared.Half.{Half}
@@ -32,7 +34,7 @@ use Rattle.time.specs.Answer.{isLetter, halfOf, half, hourOf, inDay, fra
 -- ---- a time without AM or PM is read
 
 fraction-read : {x f : List ℕ} → Secfrac x f → fractionOf x ≡ some (nanosOf f)
-unfolding nanosFrom
+unfolding nanosOf value
 fraction-read no-fraction = refl
 fraction-read (fraction {b} {f} p q) = rw (all-digits b f p q)
 
@@ -55,7 +57,7 @@ hour-read p h r (two q) =
     (λ a b fa fb. rw (two-value a b, not-sign b 0x3A fb (inr (omega arith)), fa, fb)) h q
 
 written-read : (p : Half) {t : List ℕ} {h m s : ℕ} {f : List ℕ} → Written t (clock h m s f) → fromHour p t ≡ inDay m s (nanosOf f) (hourOf p h)
-unfolding nanosFrom
+unfolding nanosOf value
 written-read p (minutes h m q r) = hour-read p h m q ∙ minutes-read p (value 0 h) m r
 written-read p (seconds h m s x f q r u v) = hour-read p h (m ++ (0x3A ∷ (s ++ x))) q ∙ seconds-read p (value 0 h) m s x f r u v
 
@@ -136,7 +138,7 @@ record FractionIs (x : List ℕ) (n : ℕ) : Type 0 where
   nanos : nanosOf behind ≡ n
 
 fraction-sound : (x : List ℕ) (n : ℕ) → fractionOf x ≡ some n → FractionIs x n
-unfolding nanosFrom
+unfolding nanosOf value
 fraction-sound [] n e = record { behind = []; point = no-fraction; nanos = cc }
 fraction-sound (b ∷ []) n e = none-some e
 fraction-sound (b ∷ c ∷ f) n e =
@@ -171,7 +173,7 @@ module _ (p : Half) (h : List ℕ) (hh : Hour h) where
       }
 
   after-minutes-sound : (a b : ℕ) (r : List ℕ) (n : ℕ) → isDigit a ≡ true → isDigit b ≡ true → afterMinutes p (value 0 h) (worth a * 10 + worth b) r ≡ some n → Found p (h ++ (0x3A ∷ a ∷ b ∷ r)) n
-  unfolding nanosFrom
+  unfolding nanosOf value
   after-minutes-sound a b [] n fa fb e =
       record {
         hour = value 0 h;

@@ -1,23 +1,24 @@
 -- How long a time of day is. Assumes nothing.
 use mathlib.Core.Path.{_≡_, refl}
 use mathlib.Core.List.{List}
-use Prim.Native.Nat.{ℕ, _≤_}
+use Prim.Native.Nat.{ℕ, _≤_, _<_}
 use native.Mathlib.Omega.{arith}
 use lib.IntN.{ℤ, pos}
 use Rattle.refusal.specs.Outcome.{accepted}
-use Rattle.timestamp.specs.Clock.{Clock, nanosFrom, nanosOf}
-use Rattle.timestamp.proofs.Bounds.{secfrac-most, clock-most}
+use Rattle.text.specs.Digits.{value}
+use Rattle.clock.specs.Clock.{Clock, nanosOf}
+use Rattle.clock.proofs.Bounds.{secfrac-most, clock-most}
 use Rattle.time.specs.Grammar.{Written, minutes, seconds, TimeOfDay, full, Reads, reads}
 use Rattle.time.specs.Grammar as Grammar
 use Rattle.time.specs.Answer.{timeNanos}
 use Rattle.time.proofs.Agreement.{agrees}
 
-written-most : {t : List ℕ} {c : Clock} → Written t c → nanosOf (c .fraction) ≤ 1000000000
-unfolding nanosFrom
+written-most : {t : List ℕ} {c : Clock} → Written t c → nanosOf (c .fraction) < 1000000000
+unfolding nanosOf value
 written-most (minutes h m p q) = omega arith
 written-most (seconds h m s x f p q r v) = secfrac-most v
 
-time-most : {t : List ℕ} {c : Clock} → TimeOfDay t c → nanosOf (c .fraction) ≤ 1000000000
+time-most : {t : List ℕ} {c : Clock} → TimeOfDay t c → nanosOf (c .fraction) < 1000000000
 time-most (full w) = written-most w
 time-most (Grammar.am a b w p q x y) = written-most w
 time-most (Grammar.pm a b w p q x y) = written-most w

@@ -12,9 +12,9 @@ use lib.Seq.{drop-cons, drop-drop}
 use borrow.Author.Tests.{not-true, not-false, lt-ltb, le-ltb, ltb-true, ltb-false}
 use Rattle.text.specs.Digits.{isDigit, digitOf, twoDigits}
 use Rattle.text.proofs.Bools.{and-left, and-right, by-test}
-use Rattle.text.proofs.DigitLaws.{is-digit, no-digit, is-worth}
-use Rattle.text.proofs.TwoDigits.{sign, twoOr, two-test, two-is}
-use Rattle.timestamp.specs.Clock.{inRange}
+use Rattle.text.proofs.DigitLaws.{is-worth}
+use Rattle.text.proofs.TwoDigits.{sign, twoOr, two-test, two-is, digit-below}
+use Rattle.clock.specs.Clock.{inRange}
 use Rattle.time.specs.declared.Half.{Half}
 use Rattle.time.specs.declared.Half.the-variants.{Neither}
 use Rattle.time.specs.Answer.{half, body, hourOf, inDay, fractionOf, withFraction, afterMinutes, afterHour, fromHour, timeOfDay}
@@ -65,15 +65,9 @@ module _ (s : List ℕ) (at : ℕ) (p : Half) (h : ℕ) {v : ℕ} (e : v ≡ two
 
 -- ---- from the hour on: a, b and c are the first three bytes less 48, and v the number of the first two
 
-digit-test : (b : ℕ) → b < 256 → ltb (digitOf b) 10 ≡ isDigit b
-digit-test b fb =
-    by-test (ltb (digitOf b) 10)
-    (λ t. rw (t, is-digit b (digitOf b) fb refl (ltb-true (digitOf b) 10 t)))
-    (λ t. rw (t, no-digit b (digitOf b) fb refl (ltb-false (digitOf b) 10 t)))
-
 module _ (s : List ℕ) (p : Half) {a b : ℕ} (fits : (i : ℕ) → getD s i 0 < 256) (ea : a ≡ digitOf (getD s 0 0)) (eb : b ≡ digitOf (getD s 1 0)) where
   one-test : ltb a 10 && eqb b 10 ≡ isDigit (getD s 0 0) && eqb (getD s 1 0) 0x3A
-  one-test = rw (ea, digit-test (getD s 0 0) (fits 0), eb, sign (getD s 1 0) 10 0x3A (fits 1) (lit< tt) refl)
+  one-test = rw (ea, digit-below (getD s 0 0) (digitOf (getD s 0 0)) (fits 0) refl, eb, sign (getD s 1 0) 10 0x3A (fits 1) (lit< tt) refl)
 
   pub one-digit : ltb a 10 && eqb b 10 ≡ true → afterHour p a (drop 2 s) ≡ fromHour p s
   one-digit q =

@@ -3,21 +3,22 @@ use mathlib.Core.Path.{_≡_, refl, sym, _∙_}
 use mathlib.Core.Bool.{true, false, _&&_}
 use mathlib.Core.List.{List, [], _∷_, append-nil}
 use mathlib.Core.Option.{none, some, Option·some-injective}
-use Prim.Native.Nat.{ℕ, _+_, _*_, _-_, _/_, _≤_, _<_}
+use Prim.Native.Nat.{ℕ, _+_, _-_, _≤_, _<_}
 use native.Mathlib.Omega.{arith}
 use native.Mathlib.Numerals.{add-one}
 use lib.Dec.{eqb, lit<}
 use lib.ListN.{getD, length, take, drop, length-drop, drop-of-length-le}
 use lib.Seq.{drop-cons, take-all}
 use borrow.Author.Tests.{eq-eqb, ne-eqb}
-use Rattle.text.specs.Digits.{isDigit, worth, digitOf, digits, run}
-use Rattle.text.proofs.Bools.{and-left, and-right, and-false, by-test, within-is}
+use Rattle.text.specs.Digits.{digitOf, digits, run}
+use Rattle.text.proofs.Bools.{and-right, and-false, by-test}
 use Rattle.text.proofs.TwoDigits.{sign}
 use Rattle.text.proofs.Parts.{rest}
-use Rattle.timestamp.specs.Clock.{nanosFrom, nanosOf}
-use Rattle.timestamp.proofs.Nanos.{led, short-of}
+use Rattle.clock.specs.Clock.{nanosOf}
 use Rattle.text.proofs.Runs.{run-all, run-digits}
-use Rattle.timestamp.proofs.Agreement.{none-some}
+use Rattle.text.proofs.Logic.{none-some}
+use Rattle.clock.proofs.Bounds.{nanos-below}
+use Rattle.clock.proofs.Nanos.{counted}
 use Rattle.time.specs.Answer.{fractionOf}
 
 -- ---- a byte and the digits behind it
@@ -60,7 +61,7 @@ module _ (s : List ℕ) (at : ℕ) where
       pub whole-fraction :
           d ≡ 254 → {n end : ℕ} →
           end ≡ at + 1 + run (drop (at + 1) s) → (end ≡ at + 1 → ⊥) → (at + 1 ≤ length s → end ≤ length s) → length s ≤ end →
-          n ≡ led 100000000 (end - (at + 1)) (take (length s - (at + 1)) (drop (at + 1) s)) → some n ≡ fractionOf (drop at s)
+          n ≡ counted (end - (at + 1)) (take (length s - (at + 1)) (drop (at + 1) s)) → some n ≡ fractionOf (drop at s)
       whole-fraction p {n} {end} q z k l en =
           let t = drop (at + 1) s in
           let r : length t ≤ run t = omega (arith, length-drop (at + 1) s) in
@@ -80,16 +81,6 @@ module _ (s : List ℕ) (at : ℕ) where
 
 -- ---- less than a second
 
-below : (u : ℕ) (f : List ℕ) → digits f ≡ true → nanosFrom u f ≤ 10 * u - 1
-unfolding nanosFrom digits
-below u [] e = omega arith
-below u (b ∷ f) e =
-    omega (
-      arith,
-      below (u / 10) f (and-right (isDigit b) (digits f) e),
-      short-of u (worth b) (omega (arith, within-is 0x30 b 0x39 (and-left (isDigit b) (digits f) e))),
-    )
-
 pub below-second : (t : List ℕ) {n : ℕ} → some n ≡ fractionOf t → n < 1000000000
 below-second [] {n} e = let z : n ≡ 0 = Option·some-injective n 0 e in omega arith
 below-second (b ∷ []) e = none-some (sym e)
@@ -97,5 +88,5 @@ below-second (b ∷ c ∷ f) {n} e =
     by-test (eqb b 0x2E && digits (c ∷ f))
     (λ t.
     let z : n ≡ nanosOf (c ∷ f) = Option·some-injective n (nanosOf (c ∷ f)) (rw t at e) in
-    omega (arith, below 100000000 (c ∷ f) (and-right (eqb b 0x2E) (digits (c ∷ f)) t)))
+    omega (arith, nanos-below (c ∷ f) (and-right (eqb b 0x2E) (digits (c ∷ f)) t)))
     (λ t. none-some (sym (rw t at e)))

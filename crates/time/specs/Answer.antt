@@ -9,13 +9,9 @@ use lib.ListN.{length, getD, take, drop}
 use lib.IntN.{ℤ, pos}
 use Rattle.refusal.specs.Outcome.{Outcome, accepted, refused, inUtf8}
 use Rattle.text.specs.Digits.{isDigit, worth, digits, twoDigits, twoAt}
-use Rattle.timestamp.specs.Clock.{inRange, nanosOf}
-use Rattle.time.specs.declared.Fraction.{Fraction}
-use Rattle.time.specs.declared.Fraction.the-variants.{Of as Nanos, None as NoFraction}
+use Rattle.clock.specs.Clock.{inRange, nanosOf}
 use Rattle.time.specs.declared.Half.{Half}
 use Rattle.time.specs.declared.Half.the-variants.{Am, Pm, Neither}
-use Rattle.time.specs.declared.Hour.{Hour}
-use Rattle.time.specs.declared.Hour.the-variants.{Of as HourOf, None as NoHour}
 
 -- a letter in either case
 abbrev pub isLetter : ℕ → ℕ → Bool
@@ -84,13 +80,3 @@ onTime (some n) = accepted (pos n)
 
 abbrev pub timeNanos : List ℕ → Outcome ℤ
 timeNanos t = inUtf8 t (onTime (timeOfDay t))
-
--- ---- what the answers of the code say
-
-abbrev pub hourIs : Hour → Option ℕ
-hourIs (HourOf h) = some h
-hourIs NoHour = none
-
-abbrev pub fractionIs : Fraction → Option ℕ
-fractionIs (Nanos n) = some n
-fractionIs NoFraction = none

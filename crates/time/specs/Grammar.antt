@@ -8,8 +8,8 @@ use Prim.Native.Nat.{ℕ, _+_, _%_, _≤_}
 use lib.IntN.{ℤ, pos}
 use Rattle.text.specs.Digits.{value}
 use Rattle.text.specs.Utf8.{Utf8}
-use Rattle.timestamp.specs.Clock.{Clock, clock, inRange, sinceMidnight}
-use Rattle.timestamp.specs.Grammar.{Figures, Secfrac}
+use Rattle.clock.specs.Clock.{Clock, clock, inRange, sinceMidnight}
+use Rattle.clock.specs.Grammar.{Figures, Secfrac}
 
 -- one or two digits
 pub data Hour : List ℕ → Type 0 where

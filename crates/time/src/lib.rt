@@ -1,12 +1,13 @@
 // Times of day.
+use clock::NaiveTime;
+use clock::Time;
 use refusal::Read64;
 use refusal::Refusal;
+use text::digits::COLON;
+use text::digits::POINT;
 use text::digits::digit;
 use text::digits::two;
 use text::white::byte_at;
-use timestamp::NaiveTime;
-use timestamp::Time;
-use timestamp::clock;
 ghost use mathlib.Core.Path.{_≡_};
 ghost use mathlib.Core.Bool.{cond, _&&_};
 ghost use mathlib.Core.Option.{none, some};
@@ -15,13 +16,9 @@ ghost use lib.Dec.{leb};
 ghost use lib.ListN.{length, take, drop};
 ghost use lib.IntN.{pos};
 ghost use Rattle.refusal.specs.Outcome.{outcome64};
-ghost use Rattle.timestamp.specs.Clock.{nanosOfDay, timeIs};
-ghost use Rattle.time.specs.Answer.{halfOf, half, hourOf, hourIs, inDay, fractionOf, fractionIs, afterMinutes, afterHour, fromHour, timeOfDay, timeNanos};
-
-// The colon and the point as digits: each byte less 48, wrapping.
-const COLON: u8 = 10;
-
-const POINT: u8 = 254;
+ghost use Rattle.clock.specs.Clock.{nanosOfDay, timeIs};
+ghost use Rattle.time.specs.Answer.{halfOf, half, hourOf, inDay, fractionOf, afterMinutes, afterHour, fromHour, timeOfDay, timeNanos};
+ghost use Rattle.time.specs.Helpers.{hourIs, fractionIs};
 
 // The half of the day that a time names.
 pub enum Half {

@@ -1,30 +1,34 @@
 -- The grammar of stamps and the computation agree: a text names a moment exactly where the computation accepts it with that moment, and
 -- it has at most one reading. Assumes nothing.
 use mathlib.Core.Path.{_≡_, refl, sym, ap, _∙_, subst}
-use mathlib.Core.Bool.{Bool, true, false, not, _&&_, _||_, false≢true}
-use mathlib.Core.Logic.{inr, ⊎-elim, _↔_}
+use mathlib.Core.Bool.{true, _&&_, _||_, false≢true}
+use mathlib.Core.Logic.{⊎-elim, _↔_}
 use mathlib.Core.List.{List, [], _∷_, _++_, append-nil}
 use mathlib.Core.Option.{Option, none, some}
 use Prim.Native.Nat.{ℕ, _+_, _*_, _<_}
 use native.Mathlib.Omega.{arith}
 use lib.Dec.{eqb, lit<}
-use lib.ListN.{length, getD, take, drop, length-append, take-append-drop, drop-of-length-le}
-use lib.Seq.{take-append-seam, drop-append-seam, drop-drop, drop-cons, getD-at}
+use lib.ListN.{length, getD, drop, length-append, drop-of-length-le}
+use lib.Seq.{drop-drop, drop-cons, getD-at}
 use lib.IntN.{ℤ, pos}
 use borrow.Author.Tests.{ne-eqb, eqb-true, eqb-false}
 use Rattle.calendar.specs.Calendar.{civil}
 use Rattle.number.specs.Widths.{inSigned}
 use Rattle.refusal.specs.Outcome.{Outcome, accepted, refused, andThen}
-use Rattle.text.specs.Digits.{isDigit, value, run, twoDigits, twoAt}
+use Rattle.refusal.proofs.Outcomes.{clash}
+use Rattle.text.specs.Digits.{isDigit, value, twoDigits, twoAt}
 use Rattle.text.specs.Utf8.{utf8, ascii}
-use Rattle.text.proofs.Bools.{and-left, and-right, or-cases, by-test}
-use Rattle.text.proofs.Runs.{run-all, run-digits}
-use Rattle.text.proofs.Ascii.{ascii-nil, ascii-cons, ascii-append, ascii-digits, ascii-utf8}
-use Rattle.timestamp.specs.Clock.{Clock, clock, inRange, nanosFrom, nanosOf, sinceMidnight}
-use Rattle.timestamp.specs.Grammar.{Figures, figures, Ymd, FullDate, full-date, Secfrac, no-fraction, fraction, PartialTime, colons, basic, Separator, capital, small, space, Ending, none-given, capital-z, small-z, Stamp, date-alone, date-time}
-use Rattle.timestamp.specs.Answer.{isDate, dayOf, hasColons, isBasic, Timed, timedAt, timed, afterSeconds, timeOf, isEnding, isSeparator, Moment, moment, instant, onTime, afterDate, onDate, plainMoment, datetime, inNanos, stampNanos}
-use Rattle.timestamp.specs.Meaning.{Rfc3339, utc, Names, names, Reads, reads}
-use Rattle.timestamp.proofs.Shapes.{all-digits, by-two, by-four, two-figures, four-figures, two-value, four-value, inside, not-sign, six, eight, ten}
+use Rattle.text.proofs.Bools.{or-cases, by-test}
+use Rattle.text.proofs.Ascii.{ascii-nil, ascii-cons, ascii-append, ascii-utf8}
+use Rattle.text.proofs.Logic.{both}
+use Rattle.clock.specs.Clock.{Clock, nanosOf, sinceMidnight}
+use Rattle.text.proofs.DigitLists.{two-value, four-value}
+use Rattle.text.proofs.Places.{inside, ten}
+use Rattle.clock.proofs.Figures.{by-two, by-four, two-figures, four-figures, ascii-figures, ascii-secfrac}
+use Rattle.timestamp.specs.Grammar.{Ymd, FullDate, full-date, PartialTime, colons, basic, Separator, capital, small, space, Ending, none-given, capital-z, small-z, Stamp, date-alone, date-time}
+use Rattle.timestamp.specs.Answer.{isDate, dayOf, Timed, timeOf, isEnding, isSeparator, onTime, afterDate, onDate, plainMoment, datetime, inNanos, stampNanos}
+use Rattle.timestamp.specs.Meaning.{Moment, moment, instant, Rfc3339, utc, Names, names, Reads, reads}
+use Rattle.timestamp.proofs.LongestTimes.{Ok, time-read, time-sound, before-ending, of-grammar}
 
 -- ---- a date is read
 
@@ -62,64 +66,10 @@ seam {a} f s q =
 pub date-size : {t : List ℕ} {d : Ymd} → FullDate t d → length t ≡ 10
 date-size f = date-read f [] .size
 
--- ---- a time is read
-
--- what follows a time begins with no digit and no point
-ending-first : {e : List ℕ} → Ending e → (isDigit (getD e 0 0) ≡ false) × (eqb (getD e 0 0) 0x2E ≡ false) × (isDigit (getD e 1 0) ≡ false)
-ending-first none-given = (refl, refl, refl)
-ending-first capital-z = (refl, refl, refl)
-ending-first small-z = (refl, refl, refl)
-
 pub is-ending : {e : List ℕ} → Ending e → isEnding e ≡ true
 is-ending none-given = refl
 is-ending capital-z = refl
 is-ending small-z = refl
-
--- the fields of a time, in range
-abbrev pub Ok : Clock → Type 0
-Ok c = inRange (c .hour) (c .minute) (c .second) ≡ true
-
-abbrev timeIs : Clock → List ℕ → Option Timed
-timeIs c e = some (record { nanos = sinceMidnight c; tail = e })
-
-fraction-read : (h m s : ℕ) {x f : List ℕ} → Secfrac x f → {e : List ℕ} → Ending e → inRange h m s ≡ true → afterSeconds h m s (x ++ e) ≡ timeIs (clock h m s f) e
-fraction-read h m s no-fraction {e} n ok = rw (ending-first n .1, ok)
-fraction-read h m s (fraction {b} {f} p q) {e} n ok =
-    rw (
-      run-all (b ∷ f) e (all-digits b f p q) (ending-first n .0),
-      ne-eqb (length (b ∷ f)) 0 (λ z. omega arith),
-      take-append-seam (b ∷ f) e,
-      drop-append-seam (b ∷ f) e,
-      ok,
-    )
-
--- six digits, with colons and without
-module _ (a b c d g i : ℕ) (fa : isDigit a ≡ true) (fb : isDigit b ≡ true) (fc : isDigit c ≡ true) (fd : isDigit d ≡ true) (fg : isDigit g ≡ true) (fi : isDigit i ≡ true) where
-  with-colons : {x f : List ℕ} → Secfrac x f → {e : List ℕ} → Ending e → Ok (clock (value 0 (a ∷ b ∷ [])) (value 0 (c ∷ d ∷ [])) (value 0 (g ∷ i ∷ [])) f) → timeOf (a ∷ b ∷ 0x3A ∷ c ∷ d ∷ 0x3A ∷ g ∷ i ∷ (x ++ e)) ≡ timeIs (clock (value 0 (a ∷ b ∷ [])) (value 0 (c ∷ d ∷ [])) (value 0 (g ∷ i ∷ [])) f) e
-  unfolding timeOf
-  with-colons v n = rw (two-value a b, two-value c d, two-value g i, fa, fb, fc, fd, fg, fi) (fraction-read (twoAt (a ∷ b ∷ []) 0) (twoAt (c ∷ d ∷ []) 0) (twoAt (g ∷ i ∷ []) 0) v n)
-
-  without : {e : List ℕ} → Ending e → Ok (clock (value 0 (a ∷ b ∷ [])) (value 0 (c ∷ d ∷ [])) (value 0 (g ∷ i ∷ [])) []) → timeOf (a ∷ b ∷ c ∷ d ∷ g ∷ i ∷ e) ≡ timeIs (clock (value 0 (a ∷ b ∷ [])) (value 0 (c ∷ d ∷ [])) (value 0 (g ∷ i ∷ [])) []) e
-  unfolding timeOf
-  without {e} n =
-      rw (two-value a b, two-value c d, two-value g i, not-sign c 0x3A fc (inr (omega arith)), fa, fb, fc, fd, fg, fi, ending-first n .0, ending-first n .2)
-      (λ ok. rw ok)
-
-time-read : {t : List ℕ} {c : Clock} → PartialTime t c → {e : List ℕ} → Ending e → Ok c → timeOf (t ++ e) ≡ timeIs c e
-time-read (colons h m s x f p q u v) {e} n =
-    by-two (λ h. Ok (clock (value 0 h) (value 0 m) (value 0 s) f) → timeOf ((h ++ (0x3A ∷ (m ++ (0x3A ∷ (s ++ x))))) ++ e) ≡ timeIs (clock (value 0 h) (value 0 m) (value 0 s) f) e)
-    (λ a b fa fb.
-    by-two (λ m. Ok (clock (value 0 (a ∷ b ∷ [])) (value 0 m) (value 0 s) f) → timeOf (a ∷ b ∷ 0x3A ∷ ((m ++ (0x3A ∷ (s ++ x))) ++ e)) ≡ timeIs (clock (value 0 (a ∷ b ∷ [])) (value 0 m) (value 0 s) f) e)
-    (λ c d fc fd.
-    by-two (λ s. Ok (clock (value 0 (a ∷ b ∷ [])) (value 0 (c ∷ d ∷ [])) (value 0 s) f) → timeOf (a ∷ b ∷ 0x3A ∷ c ∷ d ∷ 0x3A ∷ ((s ++ x) ++ e)) ≡ timeIs (clock (value 0 (a ∷ b ∷ [])) (value 0 (c ∷ d ∷ [])) (value 0 s) f) e)
-    (λ g i fg fi. with-colons a b c d g i fa fb fc fd fg fi v n) s u) m q) h p
-time-read (basic h m s p q u) {e} n =
-    by-two (λ h. Ok (clock (value 0 h) (value 0 m) (value 0 s) []) → timeOf ((h ++ (m ++ s)) ++ e) ≡ timeIs (clock (value 0 h) (value 0 m) (value 0 s) []) e)
-    (λ a b fa fb.
-    by-two (λ m. Ok (clock (value 0 (a ∷ b ∷ [])) (value 0 m) (value 0 s) []) → timeOf (a ∷ b ∷ ((m ++ s) ++ e)) ≡ timeIs (clock (value 0 (a ∷ b ∷ [])) (value 0 m) (value 0 s) []) e)
-    (λ c d fc fd.
-    by-two (λ s. Ok (clock (value 0 (a ∷ b ∷ [])) (value 0 (c ∷ d ∷ [])) (value 0 s) []) → timeOf (a ∷ b ∷ c ∷ d ∷ (s ++ e)) ≡ timeIs (clock (value 0 (a ∷ b ∷ [])) (value 0 (c ∷ d ∷ [])) (value 0 s) []) e)
-    (λ g i fg fi. without a b c d g i fa fb fc fd fg fi n) s u) m q) h p
 
 -- ---- a stamp of the grammar is accepted
 
@@ -133,22 +83,16 @@ unfolding dayOf
 day-read f r z e = let x = date-read f r in rw (x .shape, x .year, x .month, x .day) e
 
 pub complete : {t : List ℕ} {m : Moment} → Names t m → plainMoment t ≡ accepted m
-unfolding plainMoment nanosFrom
+unfolding plainMoment nanosOf value
 complete (names z (date-alone {t} f) e ok) =
     rw (rw append-nil at (day-read f [] z e), date-read f [] .size)
 complete (names z (date-time a b n s {d} {c} f g p q) e ok) =
     let x = date-read f (s ∷ (b ++ n)) in
     let long : length (a ++ (s ∷ (b ++ n))) ≡ 10 → ⊥ = λ h. omega (arith, length-append a (s ∷ (b ++ n)), x .size) in
     let y = seam f s (b ++ n) in
-    rw (day-read f (s ∷ (b ++ n)) z e, ne-eqb (length (a ++ (s ∷ (b ++ n)))) 10 long, y .0, is-separator g, y .1, time-read p q ok, is-ending q)
+    rw (day-read f (s ∷ (b ++ n)) z e, ne-eqb (length (a ++ (s ∷ (b ++ n)))) 10 long, y .0, is-separator g, y .1, time-read (before-ending p q ok), is-ending q)
 
 -- ---- an accepted text is a stamp of the grammar
-
-pub clash {ℓ} : {X : Type ℓ} {A : Type 0} {n : ℕ} {a : A} → refused n ≡ accepted a → X
-clash e = let x : _≡_ {A = ℕ} 0 1 = cc in absurd (omega arith)
-
-pub none-some {ℓ} : {X : Type ℓ} {A : Type 0} {a : A} → none ≡ some a → X
-none-some e = let x : _≡_ {A = ℕ} 0 1 = cc in absurd (omega arith)
 
 pub record DateIs (t : List ℕ) (z : ℤ) : Type 0 where
   pub date : Ymd
@@ -157,10 +101,6 @@ pub record DateIs (t : List ℕ) (z : ℤ) : Type 0 where
   pub text : t ≡ bytes ++ drop 10 t
   pub size : length bytes ≡ 10
   pub named : civil (pos (date .year)) (date .month) (date .day) ≡ some z
-
--- both parts of a test
-pub both : (x y : Bool) → x && y ≡ true → (x ≡ true) × (y ≡ true)
-both x y e = (and-left x y e, and-right x y e)
 
 pub date-sound : (t : List ℕ) (z : ℤ) → isDate t ≡ true → civil (pos (twoAt t 0 * 100 + twoAt t 2)) (twoAt t 5) (twoAt t 8) ≡ some z → DateIs t z
 date-sound t z e n =
@@ -182,111 +122,6 @@ date-sound t z e n =
       named = rw (four-value (getD t 0 0) (getD t 1 0) (getD t 2 0) (getD t 3 0), two-value (getD t 5 0) (getD t 6 0), two-value (getD t 8 0) (getD t 9 0)) n;
     }
 
-record TimeIs (t : List ℕ) (x : Timed) : Type 0 where
-  fields : Clock
-  bytes : List ℕ
-  time : PartialTime bytes fields
-  text : t ≡ bytes ++ x .tail
-  ok : Ok fields
-  nanos : x .nanos ≡ sinceMidnight fields
-
--- the fields are in range where there is a time with them
-in-range : (h m s n : ℕ) (e : List ℕ) (x : Timed) → timedAt h m s n e ≡ some x → (inRange h m s ≡ true) × (x ≡ record { nanos = ((h * 60 + m) * 60 + s) * 1000000000 + n; tail = e })
-in-range h m s n e x p =
-    by-test (inRange h m s)
-    (λ ok. let q : some (record { nanos = ((h * 60 + m) * 60 + s) * 1000000000 + n; tail = e }) ≡ some x = rw ok at p in (ok, cc))
-    (λ no. none-some (rw no at p))
-
--- a point and the digits behind it
-secfrac-of : (u : List ℕ) → (run u ≡ 0 → ⊥) → Secfrac (0x2E ∷ take (run u) u) (take (run u) u)
-unfolding run
-secfrac-of [] h = absurd (h refl)
-secfrac-of (b ∷ u) h =
-    by-test (isDigit b) (λ p. rw p (fraction {b = b} {f = take (run u) u} p (run-digits u))) (λ p. absurd (h (rw p)))
-
-point-first : (r : List ℕ) → eqb (getD r 0 0) 0x2E ≡ true → r ≡ 0x2E ∷ drop 1 r
-point-first [] e = absurd (false≢true e)
-point-first (b ∷ r) e = ap (λ (x : ℕ). x ∷ r) (eqb-true b 0x2E e)
-
--- six digits a b, c d, g i, and what follows
-module _ (a b c d g i : ℕ) (fa : isDigit a ≡ true) (fb : isDigit b ≡ true) (fc : isDigit c ≡ true) (fd : isDigit d ≡ true) (fg : isDigit g ≡ true) (fi : isDigit i ≡ true) where
-  abbrev hms : List ℕ → Clock
-  hms f = clock (value 0 (a ∷ b ∷ [])) (value 0 (c ∷ d ∷ [])) (value 0 (g ∷ i ∷ [])) f
-
-  -- the same in what the digits are worth
-  worth-ok : inRange (twoAt (a ∷ b ∷ []) 0) (twoAt (c ∷ d ∷ []) 0) (twoAt (g ∷ i ∷ []) 0) ≡ true → (f : List ℕ) → Ok (hms f)
-  worth-ok ok f = rw (two-value a b, two-value c d, two-value g i) ok
-
-  worth-nanos : (f : List ℕ) → ((twoAt (a ∷ b ∷ []) 0 * 60 + twoAt (c ∷ d ∷ []) 0) * 60 + twoAt (g ∷ i ∷ []) 0) * 1000000000 + nanosOf f ≡ sinceMidnight (hms f)
-  worth-nanos f = rw (two-value a b, two-value c d, two-value g i)
-
-  colons-sound : (r : List ℕ) (x : Timed) → afterSeconds (twoAt (a ∷ b ∷ []) 0) (twoAt (c ∷ d ∷ []) 0) (twoAt (g ∷ i ∷ []) 0) r ≡ some x → TimeIs (a ∷ b ∷ 0x3A ∷ c ∷ d ∷ 0x3A ∷ g ∷ i ∷ r) x
-  colons-sound r x e =
-      by-test (eqb (getD r 0 0) 0x2E)
-      (λ p. by-test (eqb (run (drop 1 r)) 0)
-      (λ q. none-some (rw (p, q) at e))
-      (λ q.
-      let u : List ℕ = drop 1 r in
-      let y = in-range (twoAt (a ∷ b ∷ []) 0) (twoAt (c ∷ d ∷ []) 0) (twoAt (g ∷ i ∷ []) 0) (nanosOf (take (run u) u)) (drop (run u) u) x (rw (p, q) at e) in
-      rw (y .1) (record {
-        fields = hms (take (run u) u);
-        bytes = a ∷ b ∷ 0x3A ∷ c ∷ d ∷ 0x3A ∷ g ∷ i ∷ 0x2E ∷ take (run u) u;
-        time = colons (a ∷ b ∷ []) (c ∷ d ∷ []) (g ∷ i ∷ []) (0x2E ∷ take (run u) u) (take (run u) u) (two-figures a b fa fb) (two-figures c d fc fd) (two-figures g i fg fi) (secfrac-of u (eqb-false (run u) 0 q));
-        text = ap (λ (v : List ℕ). a ∷ b ∷ 0x3A ∷ c ∷ d ∷ 0x3A ∷ g ∷ i ∷ v) (point-first r p ∙ ap (λ (v : List ℕ). 0x2E ∷ v) (sym (take-append-drop (run u) u)));
-        ok = worth-ok (y .0) (take (run u) u);
-        nanos = worth-nanos (take (run u) u);
-      })))
-      (λ p.
-      let y = in-range (twoAt (a ∷ b ∷ []) 0) (twoAt (c ∷ d ∷ []) 0) (twoAt (g ∷ i ∷ []) 0) (nanosOf []) r x (rw p at e) in
-      rw (y .1) (record {
-        fields = hms [];
-        bytes = a ∷ b ∷ 0x3A ∷ c ∷ d ∷ 0x3A ∷ g ∷ i ∷ [];
-        time = colons (a ∷ b ∷ []) (c ∷ d ∷ []) (g ∷ i ∷ []) [] [] (two-figures a b fa fb) (two-figures c d fc fd) (two-figures g i fg fi) no-fraction;
-        text = refl;
-        ok = worth-ok (y .0) [];
-        nanos = worth-nanos [];
-      }))
-
-  basic-sound : (r : List ℕ) (x : Timed) → timed (twoAt (a ∷ b ∷ []) 0) (twoAt (c ∷ d ∷ []) 0) (twoAt (g ∷ i ∷ []) 0) [] r ≡ some x → TimeIs (a ∷ b ∷ c ∷ d ∷ g ∷ i ∷ r) x
-  basic-sound r x e =
-      let y = in-range (twoAt (a ∷ b ∷ []) 0) (twoAt (c ∷ d ∷ []) 0) (twoAt (g ∷ i ∷ []) 0) (nanosOf []) r x e in
-      rw (y .1) (record {
-        fields = hms [];
-        bytes = a ∷ b ∷ c ∷ d ∷ g ∷ i ∷ [];
-        time = basic (a ∷ b ∷ []) (c ∷ d ∷ []) (g ∷ i ∷ []) (two-figures a b fa fb) (two-figures c d fc fd) (two-figures g i fg fi);
-        text = refl;
-        ok = worth-ok (y .0) [];
-        nanos = worth-nanos [];
-      })
-
-time-sound : (t : List ℕ) (x : Timed) → timeOf t ≡ some x → TimeIs t x
-unfolding timeOf
-time-sound t x e =
-    by-test (hasColons t)
-    (λ p.
-    let q = both (twoDigits t 0) (eqb (getD t 2 0) 0x3A && (twoDigits t 3 && (eqb (getD t 5 0) 0x3A && twoDigits t 6))) p in
-    let r = both (eqb (getD t 2 0) 0x3A) (twoDigits t 3 && (eqb (getD t 5 0) 0x3A && twoDigits t 6)) (q .1) in
-    let s = both (twoDigits t 3) (eqb (getD t 5 0) 0x3A && twoDigits t 6) (r .1) in
-    let u = both (eqb (getD t 5 0) 0x3A) (twoDigits t 6) (s .1) in
-    let h = both (isDigit (getD t 0 0)) (isDigit (getD t 1 0)) (q .0) in
-    let m = both (isDigit (getD t 3 0)) (isDigit (getD t 4 0)) (s .0) in
-    let n = both (isDigit (getD t 6 0)) (isDigit (getD t 7 0)) (u .1) in
-    subst (λ (v : List ℕ). TimeIs v x)
-    (sym (rw (eqb-true (getD t 2 0) 0x3A (r .0), eqb-true (getD t 5 0) 0x3A (u .0)) at (eight t (inside t 7 (n .1)))))
-    (colons-sound (getD t 0 0) (getD t 1 0) (getD t 3 0) (getD t 4 0) (getD t 6 0) (getD t 7 0) (h .0) (h .1) (m .0) (m .1) (n .0) (n .1) (drop 8 t) x (rw p at e)))
-    (λ p.
-    by-test (isBasic t)
-    (λ q.
-    let r = both (twoDigits t 0) (twoDigits t 2 && (twoDigits t 4 && (not (isDigit (getD t 6 0)) && not (isDigit (getD t 7 0))))) q in
-    let s = both (twoDigits t 2) (twoDigits t 4 && (not (isDigit (getD t 6 0)) && not (isDigit (getD t 7 0)))) (r .1) in
-    let u = both (twoDigits t 4) (not (isDigit (getD t 6 0)) && not (isDigit (getD t 7 0))) (s .1) in
-    let h = both (isDigit (getD t 0 0)) (isDigit (getD t 1 0)) (r .0) in
-    let m = both (isDigit (getD t 2 0)) (isDigit (getD t 3 0)) (s .0) in
-    let n = both (isDigit (getD t 4 0)) (isDigit (getD t 5 0)) (u .0) in
-    subst (λ (v : List ℕ). TimeIs v x) (sym (six t (inside t 5 (n .1))))
-    (basic-sound (getD t 0 0) (getD t 1 0) (getD t 2 0) (getD t 3 0) (getD t 4 0) (getD t 5 0) (h .0) (h .1) (m .0) (m .1) (n .0) (n .1) (drop 6 t) x (rw (p, q) at e)))
-    (λ q. none-some (rw (p, q) at e)))
-
 pub ending-sound : (e : List ℕ) → isEnding e ≡ true → Ending e
 ending-sound [] p = none-given
 ending-sound (b ∷ []) p =
@@ -302,7 +137,7 @@ separator-sound b p =
 -- the date is read; what follows is nothing, or a separator, a time and an ending
 module _ (t : List ℕ) (z : ℤ) (x : DateIs t z) (m : Moment) where
   alone : length t ≡ 10 → accepted (moment z 0) ≡ accepted m → Names t m
-  unfolding nanosFrom
+  unfolding nanosOf value
   alone h e =
       let q : moment z 0 ≡ m = cc in
       let w : t ≡ x .bytes = x .text ∙ ap (λ (r : List ℕ). x .bytes ++ r) (drop-of-length-le t {i = 10} (omega arith)) ∙ append-nil (x .bytes) in
@@ -313,9 +148,10 @@ module _ (t : List ℕ) (z : ℤ) (x : DateIs t z) (m : Moment) where
   at-time h s (some y) p e =
       by-test (isEnding (y .tail))
       (λ n.
-      let k = time-sound (drop 11 t) y p in
+      let x' = time-sound (drop 11 t) y p in
+      let k = of-grammar (x' .time) in
       let q : accepted (moment z (y .nanos)) ≡ accepted m = rw n at e in
-      let v : moment z (sinceMidnight (k .fields)) ≡ m = cc (k .nanos) in
+      let v : moment z (sinceMidnight (x' .fields)) ≡ m = cc (x' .nanos) in
       let long : 10 < length t = omega (arith, ap length (x .text), length-append (x .bytes) (drop 10 t), x .size) in
       let w : t ≡ x .bytes ++ (getD t 10 0 ∷ (k .bytes ++ y .tail)) =
       x .text ∙ ap (λ (r : List ℕ). x .bytes ++ r) (drop-cons t 10 0 long ∙ ap (λ (r : List ℕ). getD t 10 0 ∷ r) (k .text)) in
@@ -345,16 +181,9 @@ sound t m e =
 
 -- ---- stamps are ASCII
 
-pub ascii-figures : {n : ℕ} {t : List ℕ} → Figures n t → ascii t ≡ true
-ascii-figures {n} {t} (figures h e) = ascii-digits t e
-
 ascii-date : {t : List ℕ} {d : Ymd} → FullDate t d → ascii t ≡ true
 ascii-date (full-date y m d p q r) =
     ascii-append y _ (ascii-figures p) (ascii-cons 0x2D _ (lit< tt) (ascii-append m _ (ascii-figures q) (ascii-cons 0x2D d (lit< tt) (ascii-figures r))))
-
-pub ascii-secfrac : {x f : List ℕ} → Secfrac x f → ascii x ≡ true
-ascii-secfrac no-fraction = ascii-nil
-ascii-secfrac (fraction {b} {f} p q) = ascii-cons 0x2E (b ∷ f) (lit< tt) (ascii-digits (b ∷ f) (all-digits b f p q))
 
 ascii-time : {t : List ℕ} {c : Clock} → PartialTime t c → ascii t ≡ true
 ascii-time (colons h m s x f p q r v) =

@@ -9,12 +9,12 @@ use lib.Dec.{ltb, eqb, lit<}
 use lib.ListN.{getD, length, take, drop, List·getD-eq-default}
 use lib.Seq.{drop-drop}
 use borrow.Author.Tests.{lt-ltb, ltb-true, ltb-false, eq-eqb, ne-eqb}
-use Rattle.text.specs.Digits.{digitOf, run}
+use Rattle.text.specs.Digits.{digitOf, run, value}
 use Rattle.text.proofs.Bools.{by-test}
-use Rattle.timestamp.specs.Clock.{inRange, nanosFrom, nanosOf}
+use Rattle.clock.specs.Clock.{inRange, nanosOf}
+use Rattle.clock.proofs.Nanos.{of-run, counted}
 use Rattle.timestamp.specs.Answer.{Timed, afterSeconds, timedAt}
 use Rattle.text.proofs.TwoDigits.{sign-test}
-use Rattle.timestamp.proofs.Nanos.{led, of-run}
 
 -- ---- a time and the bytes after it
 
@@ -41,7 +41,7 @@ module _ (s : List ℕ) {d : ℕ} (fits : (i : ℕ) → getD s i 0 < 256) (e : d
 
   module _ (h m x : ℕ) where
     pub no-point : (d ≡ 254 → ⊥) → timedAt h m x 0 (drop 19 s) ≡ afterSeconds h m x (drop 19 s)
-    unfolding nanosFrom
+    unfolding nanosOf value
     no-point p = rw (sym point-test ∙ ne-eqb d 254 p)
 
     pub point-alone : d ≡ 254 → run (drop 20 s) ≡ 0 → none ≡ afterSeconds h m x (drop 19 s)
@@ -50,7 +50,7 @@ module _ (s : List ℕ) {d : ℕ} (fits : (i : ℕ) → getD s i 0 < 256) (e : d
     pub fraction :
         d ≡ 254 → {n end : ℕ} →
         end ≡ 20 + run (drop 20 s) → (end ≡ 20 → ⊥) →
-        n ≡ led 100000000 (end - 20) (take (end - 20) (drop 20 s)) → timedAt h m x n (drop end s) ≡ afterSeconds h m x (drop 19 s)
+        n ≡ counted (end - 20) (take (end - 20) (drop 20 s)) → timedAt h m x n (drop end s) ≡ afterSeconds h m x (drop 19 s)
     fraction p {n} {end} q z en =
         let r : end - 20 ≡ run (drop 20 s) = omega arith in
         let v : n ≡ nanosOf (take (run (drop 20 s)) (drop 20 s)) = (rw r at en) ∙ of-run (drop 20 s) in

@@ -2,18 +2,19 @@
 use mathlib.Core.Path.{_≡_, refl, sym, ap, _∙_}
 use mathlib.Core.Bool.{Bool, true, false, not, _||_}
 use mathlib.Core.List.{List}
-use mathlib.Core.Option.{Option, none, some}
+use mathlib.Core.Option.{Option}
 use Prim.Native.Nat.{ℕ, _<_}
 use lib.Dec.{eqb, lit<}
 use lib.ListN.{getD, length, drop}
 use lib.IntN.{ℤ}
 use borrow.Author.Tests.{not-true, not-false, eq-eqb, ne-eqb}
 use Rattle.number.specs.Widths.{inSigned, fit}
-use Rattle.refusal.specs.Outcome.{Outcome, accepted, refused, numberIn, inUtf8, andThen}
+use Rattle.refusal.specs.Outcome.{Outcome, accepted, refused, andThen}
+use Rattle.refusal.proofs.Outcomes.{orRange}
 use Rattle.text.specs.Digits.{digitOf}
-use Rattle.text.specs.Utf8.{utf8}
 use Rattle.text.proofs.Bools.{by-test}
-use Rattle.timestamp.specs.Answer.{Moment, moment, dayOf, timeOf, isSeparator, afterDate, onTime, onDate, plainMoment, inNanos, instant}
+use Rattle.timestamp.specs.Answer.{dayOf, timeOf, isSeparator, afterDate, onTime, onDate, plainMoment, inNanos}
+use Rattle.timestamp.specs.Meaning.{Moment, moment, instant}
 use Rattle.text.proofs.TwoDigits.{sign-test}
 
 -- ---- after a date with the day number z
@@ -48,16 +49,7 @@ module _ (s : List ℕ) where
   unfolding plainMoment
   after-day e = ap (onDate s) e
 
-  -- a refusal, after which UTF-8 is looked at
-  pub refused-in : {A : Type 0} {o : Outcome A} {k n : ℕ} → k ≡ numberIn s n → refused n ≡ o → refused k ≡ inUtf8 s o
-  refused-in e q = rw (e, ← q) (by-test (utf8 s) (λ t. rw t) (λ t. rw t))
-
 -- ---- in nanoseconds
-
--- a number, or refusal 6 where there is none
-abbrev pub orRange : Option ℤ → Outcome ℤ
-orRange none = refused 6
-orRange (some z) = accepted z
 
 pub in-range : (z : ℤ) → orRange (fit 63 z) ≡ inNanos z
 in-range z = by-test (inSigned 63 z) (λ e. rw e) (λ e. rw e)

@@ -16,15 +16,16 @@ use Rattle.refusal.specs.Outcome.{Outcome, accepted, refused, andThen}
 use Rattle.text.specs.Utf8.{Utf8, utf8}
 use Rattle.text.proofs.Bools.{by-test, fails, holds-not}
 use Rattle.text.proofs.Utf8Agrees as utf
-use Rattle.timestamp.specs.Answer.{isDate, dayOf, Timed, timeOf, isEnding, isSeparator, Moment, instant, onTime, afterDate, onDate, plainMoment, datetime, inNanos, stampNanos}
-use Rattle.timestamp.specs.Meaning.{Dated, dated, Refuses, not-utf8, no-date, no-separator, no-time, more-after, out-of-range}
-use Rattle.timestamp.proofs.Agreement.{agrees, clash, none-some, seam, date-size, day-read, DateIs, date-sound, is-separator, separator-sound, is-ending, ending-sound}
+use Rattle.refusal.proofs.Outcomes.{clash, same}
+use Rattle.text.proofs.Logic.{none-some}
+use Rattle.clock.specs.Clock.{Clock}
+use Rattle.timestamp.specs.Answer.{isDate, dayOf, Timed, timeOf, isEnding, isSeparator, onTime, afterDate, onDate, plainMoment, datetime, inNanos, stampNanos}
+use Rattle.timestamp.specs.Meaning.{Moment, instant, Dated, dated, LongestTime, Refuses, not-utf8, no-date, no-separator, no-time, more-after, out-of-range}
+use Rattle.timestamp.proofs.LongestTimes.{time-read, time-sound}
+use Rattle.timestamp.proofs.Agreement.{agrees, seam, date-size, day-read, DateIs, date-sound, is-separator, separator-sound, is-ending, ending-sound}
 
 is-utf8 : {t : List ℕ} → Utf8 t → utf8 t ≡ true
 is-utf8 {t} u = utf.agrees t .0 u
-
-pub same : {A : Type 0} {m n : ℕ} → _≡_ {A = Outcome A} (refused m) (refused n) → m ≡ n
-same e = cc
 
 -- ---- a refusal of the relation is the computation's
 
@@ -63,21 +64,28 @@ no-day t h = by (dayOf t) refl
     by none e = rw e
     by (some z) e = let x = date-at t z e in absurd (h (x .bytes) (drop 10 t) z (x .text) (dated z (x .full) (x .named)))
 
+no-longest : (r : List ℕ) → ((c : Clock) (e : List ℕ) → LongestTime r c e → ⊥) → timeOf r ≡ none
+no-longest r h = by (timeOf r) refl
+  where
+    by : (o : Option Timed) → timeOf r ≡ o → timeOf r ≡ none
+    by none e = e
+    by (some x) e = let k = time-sound r x e in absurd (h (k .fields) (x .tail) (k .time))
+
 into : {t : List ℕ} {n : ℕ} → Refuses t n → stampNanos t ≡ refused n
 into (not-utf8 {t} h) = rw (fails (utf8 t) (utf.agrees t .1) h)
 into (no-date {t} u h) = rw (is-utf8 u, no-day t h)
 into (no-separator a r b z u d s) = rw (third r b u d (fails (isSeparator b) (separator-sound b) s))
-into (no-time a r s z u d p e) = rw (on-time r s u d (is-separator p), e)
-into (more-after a r s z x u d p e n) =
-    rw (on-time r s u d (is-separator p), e, fails (isEnding (x .tail)) (ending-sound (x .tail)) n)
+into (no-time a r s z u d p h) = rw (on-time r s u d (is-separator p), no-longest r h)
+into (more-after a r e s z c u d p l n) =
+    rw (on-time r s u d (is-separator p), time-read l, fails (isEnding e) (ending-sound e) n)
 into (out-of-range {t} m n f) = rw (agrees t m .0 n, f)
 
 -- ---- a refusal of the computation is the relation's
 
 -- a date, and what follows it
 module _ (t : List ℕ) (u : utf8 t ≡ true) (z : ℤ) (x : DateIs t z) where
-  whole : Dated (x .bytes) z
-  whole = dated z (x .full) (x .named)
+  its-date : Dated (x .bytes) z
+  its-date = dated z (x .full) (x .named)
 
   text-is : (length t ≡ 10 → ⊥) → t ≡ x .bytes ++ (getD t 10 0 ∷ drop 11 t)
   text-is h =
@@ -91,12 +99,14 @@ module _ (t : List ℕ) (u : utf8 t ≡ true) (z : ℤ) (x : DateIs t z) where
   back-at h {n} = subst (λ (v : List ℕ). Refuses v n) (sym (text-is h))
 
   timed : (length t ≡ 10 → ⊥) → isSeparator (getD t 10 0) ≡ true → (o : Option Timed) → timeOf (drop 11 t) ≡ o → (n : ℕ) → onTime z o ≡ refused n → Refuses t n
-  timed h s none p n e = rw (← same e) (back-at h (no-time (x .bytes) (drop 11 t) (getD t 10 0) z (utf8-is h) whole (separator-sound (getD t 10 0) s) p))
+  timed h s none p n e = rw (← same e) (back-at h (no-time (x .bytes) (drop 11 t) (getD t 10 0) z (utf8-is h) its-date (separator-sound (getD t 10 0) s) (λ c e l. none-some (sym p ∙ time-read l))))
   timed h s (some y) p n e =
       by-test (isEnding (y .tail))
       (λ q. clash (sym (rw q at e)))
-      (λ q. let w : refused 5 ≡ refused n = rw q at e in
-      rw (← same w) (back-at h (more-after (x .bytes) (drop 11 t) (getD t 10 0) z y (utf8-is h) whole (separator-sound (getD t 10 0) s) p (holds-not q is-ending))))
+      (λ q.
+      let k = time-sound (drop 11 t) y p in
+      let w : refused 5 ≡ refused n = rw q at e in
+      rw (← same w) (back-at h (more-after (x .bytes) (drop 11 t) (y .tail) (getD t 10 0) z (k .fields) (utf8-is h) its-date (separator-sound (getD t 10 0) s) (k .time) (holds-not q is-ending))))
 
   after : (n : ℕ) → afterDate t z ≡ refused n → Refuses t n
   after n e =
@@ -107,7 +117,7 @@ module _ (t : List ℕ) (u : utf8 t ≡ true) (z : ℤ) (x : DateIs t z) where
       by-test (isSeparator (getD t 10 0))
       (λ s. timed k s (timeOf (drop 11 t)) refl n (rw (h, s) at e))
       (λ s. let w : refused 3 ≡ refused n = rw (h, s) at e in
-      rw (← same w) (back-at k (no-separator (x .bytes) (drop 11 t) (getD t 10 0) z (utf8-is k) whole (holds-not s is-separator)))))
+      rw (← same w) (back-at k (no-separator (x .bytes) (drop 11 t) (getD t 10 0) z (utf8-is k) its-date (holds-not s is-separator)))))
 
 early : (t : List ℕ) → utf8 t ≡ true → (n : ℕ) → plainMoment t ≡ refused n → Refuses t n
 unfolding plainMoment

@@ -9,9 +9,9 @@ use lib.Dec.{ltb, leb, eqb, lit<}
 use lib.ListN.{getD, drop, length, length-drop}
 use lib.Seq.{drop-drop}
 use borrow.Author.Tests.{not-true, not-false}
-use Rattle.text.specs.Digits.{isDigit, digitOf, twoDigits}
+use Rattle.text.specs.Digits.{isDigit, digitOf, twoDigits, value}
 use Rattle.text.proofs.Bools.{and-false}
-use Rattle.timestamp.specs.Clock.{nanosFrom}
+use Rattle.clock.specs.Clock.{nanosOf}
 use Rattle.timestamp.specs.Answer.{hasColons, isBasic, afterSeconds, basicTime, timedAt, timeOf}
 use Rattle.text.proofs.TwoDigits.{twoOr, past-end, two-test, two-is, sign-test, digit-test, all-five}
 
@@ -78,7 +78,7 @@ module _ {s : List ℕ} {h m x a b : ℕ} (fits : (i : ℕ) → getD s i 0 < 256
   no-time e = rw (sym basics ∙ not-true (basicTest h m x a b) e)
 
   pub without-colons : not (basicTest h m x a b) ≡ false → timedAt h m x 0 (drop 17 s) ≡ basicTime (drop 11 s)
-  unfolding nanosFrom
+  unfolding nanosOf value
   without-colons e =
       let t = drop 11 s in
       let c : isBasic (drop 11 s) ≡ true = sym basics ∙ not-false (basicTest h m x a b) e in

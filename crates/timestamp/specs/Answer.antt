@@ -14,9 +14,8 @@ use Rattle.text.specs.Digits.{isDigit, twoDigits, twoAt, run}
 use Rattle.timestamp.specs.declared.DateTime.{DateTime}
 use Rattle.timestamp.specs.declared.DateTime.the-variants.{At as Moment·At, Refused as Moment·Refused}
 use Rattle.timestamp.specs.declared.NaiveDateTime.{NaiveDateTime}
-use Rattle.timestamp.specs.declared.TimeAndEnd.{TimeAndEnd}
-use Rattle.timestamp.specs.declared.TimeAndEnd.the-variants.{At as Ends, None as NoTime}
-use Rattle.timestamp.specs.Clock.{inRange, nanosOf, nanosOfDay}
+use Rattle.clock.specs.Clock.{inRange, nanosOf, nanosOfDay}
+use Rattle.timestamp.specs.Meaning.{Moment, moment, instant}
 
 -- the text begins with yyyy-mm-dd
 abbrev pub isDate : List ℕ → Bool
@@ -76,18 +75,6 @@ isEnding (b ∷ c ∷ t) = false
 abbrev pub isSeparator : ℕ → Bool
 isSeparator b = eqb b 0x54 || (eqb b 0x74 || eqb b 0x20)
 
--- a day, and the nanoseconds since its midnight
-pub record Moment : Type 0 where
-  pub day : ℤ
-  pub nanos : ℕ
-
-abbrev pub moment : ℤ → ℕ → Moment
-moment z n = record { day = z; nanos = n }
-
--- nanoseconds since 1970-01-01T00:00:00Z
-abbrev pub instant : Moment → ℤ
-instant m = m .day *ℤ pos 86400000000000 +ℤ pos (m .nanos)
-
 -- 5: bytes remain after the time that are not a single final z or Z
 abbrev pub atEnd : ℤ → Timed → Outcome Moment
 atEnd z x = cond (isEnding (x .tail)) (accepted (moment z (x .nanos))) (refused 5)
@@ -124,11 +111,6 @@ abbrev pub stampNanos : List ℕ → Outcome ℤ
 stampNanos t = andThen (datetime t) (λ m. inNanos (instant m))
 
 -- ---- what the answers of the code say
-
--- a time of a text s, and the place where it ends
-abbrev pub endsAt : List ℕ → TimeAndEnd → Option Timed
-endsAt s (Ends t e) = some (record { nanos = nanosOfDay t; tail = drop e s })
-endsAt s NoTime = none
 
 abbrev pub momentOf : NaiveDateTime → Moment
 momentOf x = moment (x .day) (nanosOfDay (x .time))

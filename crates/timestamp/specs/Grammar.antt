@@ -1,17 +1,11 @@
 -- The texts of stamps, as relations: RFC 3339, section 5.6, as document 01 ("Dates and stamps") narrows and widens it. There is no
 -- offset but z or Z, or none at all; a date may stand alone; the separator may be a space; the time may have no colons, and then no
 -- fraction. Assumes nothing.
-use mathlib.Core.Path.{_≡_}
-use mathlib.Core.Bool.{true}
 use mathlib.Core.List.{List, [], _∷_, _++_}
 use Prim.Native.Nat.{ℕ}
-use lib.ListN.{length}
-use Rattle.text.specs.Digits.{isDigit, digits, value}
-use Rattle.timestamp.specs.Clock.{Clock, clock}
-
--- nDIGIT: a number of n digits
-pub data Figures (n : ℕ) : List ℕ → Type 0 where
-  figures : {t : List ℕ} → length t ≡ n → digits t ≡ true → Figures n t
+use Rattle.text.specs.Digits.{value}
+use Rattle.clock.specs.Clock.{Clock, clock}
+use Rattle.clock.specs.Grammar.{Figures, Secfrac}
 
 -- a date as a text writes it
 pub record Ymd : Type 0 where
@@ -23,11 +17,6 @@ pub record Ymd : Type 0 where
 pub data FullDate : List ℕ → Ymd → Type 0 where
   full-date : (y m d : List ℕ) → Figures 4 y → Figures 2 m → Figures 2 d
       → FullDate (y ++ (0x2D ∷ (m ++ (0x2D ∷ d)))) (record { year = value 0 y; month = value 0 m; day = value 0 d })
-
--- [time-secfrac], with time-secfrac = "." 1*DIGIT: the bytes, and the digits behind the point
-pub data Secfrac : List ℕ → List ℕ → Type 0 where
-  no-fraction : Secfrac [] []
-  fraction : {b : ℕ} {f : List ℕ} → isDigit b ≡ true → digits f ≡ true → Secfrac (0x2E ∷ b ∷ f) (b ∷ f)
 
 -- partial-time = time-hour ":" time-minute ":" time-second [time-secfrac]; and ISO 8601's basic format without a fraction
 pub data PartialTime : List ℕ → Clock → Type 0 where

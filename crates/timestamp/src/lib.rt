@@ -1,22 +1,9 @@
 // Stamps: RFC 3339 timestamps in UTC, and the forms close to them that the Rust reads.
+use clock::NaiveTime;
 use refusal::Refusal;
 
-pub mod clock;
 mod parser;
-pub mod site;
 pub mod stamp;
-
-// A time of day: seconds since midnight, and nanoseconds. Second 60 is second 59 with 1,000,000,000 added to the nanoseconds.
-pub struct NaiveTime {
-    pub secs: u32,
-    pub frac: u32,
-}
-
-// A time of day, or none.
-pub enum Time {
-    At(NaiveTime),
-    None,
-}
 
 // A time of day in a text and the place where it ends, or none.
 pub enum TimeAndEnd {

@@ -1,8 +1,10 @@
 // The Rust's `TimestampParser`, over the text itself: its bytes less 48, wrapping, by their places.
-use crate::Time;
 use crate::TimeAndEnd;
-use crate::clock;
 use calendar::Day;
+use clock::Time;
+use text::digits::COLON;
+use text::digits::HYPHEN;
+use text::digits::POINT;
 use text::digits::digit;
 use text::digits::two;
 use text::white::byte_at;
@@ -10,17 +12,13 @@ ghost use mathlib.Core.Path.{_≡_};
 ghost use Prim.Native.Nat.{_+_, _≤_, _<_};
 ghost use lib.ListN.{length, drop};
 ghost use Rattle.calendar.specs.Calendar.{day};
-ghost use Rattle.timestamp.specs.Answer.{dayOf, basicTime, afterSeconds, timeOf, timedAt, endsAt};
-
-// The separators as digits: each byte less 48, wrapping.
-const HYPHEN: u8 = 253;
-
-const COLON: u8 = 10;
-
-const POINT: u8 = 254;
+ghost use Rattle.calendar.specs.Cycle.{YearStarts};
+ghost use Rattle.timestamp.specs.Answer.{dayOf, basicTime, afterSeconds, timeOf, timedAt};
+ghost use Rattle.timestamp.specs.Helpers.{endsAt};
 
 // Parses a date of the form `1997-01-31`.
-pub fn date(s: &[u8]) -> Day
+pub fn date(starts: &[u32; 401], s: &[u8]) -> Day
+    requires { ⌜ YearStarts (now starts) ⌝ }
     requires { ⌜ 10 ≤ length (now s) ⌝ }
     ensures { λ r. ⌜ day r ≡ dayOf (now (s .entry)) ⌝ }
 {
@@ -36,7 +34,7 @@ pub fn date(s: &[u8]) -> Day
         return Day::None;
     }
     let whole_year = century as u32 * 100 + year as u32;
-    calendar::days_from_ymd(whole_year as i32, month as u32, day_of_month as u32)
+    calendar::days_from_ymd(starts, whole_year as i32, month as u32, day_of_month as u32)
 }
 
 // Parses a time of any of the forms, from byte 11 on

@@ -1,29 +1,27 @@
 // Stamps.
 use crate::DateTime;
 use crate::NaiveDateTime;
-use crate::NaiveTime;
 use crate::TimeAndEnd;
 use crate::parser;
 use calendar::Day;
+use clock::NaiveTime;
 use number::Int64;
 use refusal::Read64;
 use refusal::Refusal;
+use text::digits::CAPITAL_T;
+use text::digits::SMALL_T;
+use text::digits::SPACE;
 use text::digits::digit;
 ghost use mathlib.Core.Path.{_≡_};
 ghost use Prim.Native.Nat.{_≤_};
 ghost use lib.ListN.{length, drop};
 ghost use lib.IntN.{pos, _+ℤ_, _*ℤ_};
+ghost use Rattle.calendar.specs.Cycle.{YearStarts};
 ghost use Rattle.number.specs.Widths.{fit, int64};
 ghost use Rattle.refusal.specs.Outcome.{outcome64};
-ghost use Rattle.timestamp.specs.Clock.{nanosOfDay};
-ghost use Rattle.timestamp.specs.Answer.{isEnding, plainMoment, afterDate, atEnd, datetime, stampNanos, instant, inNanos, momentOf, momentIs};
-
-// T, t and a space as digits: each byte less 48, wrapping.
-const CAPITAL_T: u8 = 36;
-
-const SMALL_T: u8 = 68;
-
-const SPACE: u8 = 240;
+ghost use Rattle.clock.specs.Clock.{nanosOfDay};
+ghost use Rattle.timestamp.specs.Answer.{isEnding, plainMoment, afterDate, atEnd, datetime, stampNanos, inNanos, momentOf, momentIs};
+ghost use Rattle.timestamp.specs.Meaning.{instant};
 
 // Reads a stamp in UTC
 // * `1997-01-31T09:26:56.123Z`        # RFC 3339
@@ -33,22 +31,24 @@ const SPACE: u8 = 240;
 // * `1997-01-31`                      # only a date
 //
 // A text that is read is ASCII, so UTF-8 is looked at only where a text is refused.
-pub fn string_to_datetime(s: &[u8]) -> DateTime
+pub fn string_to_datetime(starts: &[u32; 401], s: &[u8]) -> DateTime
+    requires { ⌜ YearStarts (now starts) ⌝ }
     ensures { λ r. ⌜ momentIs r ≡ datetime (now (s .entry)) ⌝ }
 {
-    match plain(s) {
+    match plain(starts, s) {
         DateTime::At(x) => DateTime::At(x),
         DateTime::Refused(why) => DateTime::Refused(why.of(s)),
     }
 }
 
-fn plain(s: &[u8]) -> DateTime
+fn plain(starts: &[u32; 401], s: &[u8]) -> DateTime
+    requires { ⌜ YearStarts (now starts) ⌝ }
     ensures { λ r. ⌜ momentIs r ≡ plainMoment (now (s .entry)) ⌝ }
 {
     if s.len() < 10 {
         return DateTime::Refused(Refusal::Date);
     }
-    match parser::date(s) {
+    match parser::date(starts, s) {
         Day::Number(day) => after_date(s, day),
         Day::None => DateTime::Refused(Refusal::Date),
     }
@@ -145,7 +145,16 @@ fn in_nanos(x: NaiveDateTime) -> Read64
 pub fn string_to_timestamp_nanos(s: &[u8]) -> Read64
     ensures { λ r. ⌜ outcome64 r ≡ stampNanos (now (s .entry)) ⌝ }
 {
-    match string_to_datetime(s) {
+    let starts = calendar::year_starts();
+    string_to_timestamp_nanos_with(&starts, s)
+}
+
+// The same with the table of year starts lent.
+pub fn string_to_timestamp_nanos_with(starts: &[u32; 401], s: &[u8]) -> Read64
+    requires { ⌜ YearStarts (now starts) ⌝ }
+    ensures { λ r. ⌜ outcome64 r ≡ stampNanos (now (s .entry)) ⌝ }
+{
+    match string_to_datetime(starts, s) {
         DateTime::At(x) => in_nanos(x),
         DateTime::Refused(why) => Read64::Refused(why),
     }

@@ -23,6 +23,9 @@ pub const UNITS: &[&str] = &[
     "usecs", "usecond", "useconds", "microsecond", "microseconds", "nanosecond", "nanoseconds",
 ];
 
+/// Where each unit's spellings begin in `UNITS`, from century to nanosecond, and their end.
+const FIRST: [usize; 13] = [0, 5, 9, 14, 18, 21, 24, 29, 34, 39, 46, 53, 55];
+
 /// Numbers at which something stops fitting.
 const LIMITS: &[i128] = &[
     0, 1, 7, 10, 12, 30, 999, 1000, 86_400, 1_789_569, 17_895_697, 71_582_788, 153_722_867, 178_956_970, 306_783_378, 2_562_047,
@@ -63,7 +66,7 @@ impl Generator {
         of[self.below(of.len() as u64) as usize]
     }
 
-    fn digits(&mut self, n: u64) -> String {
+    pub fn digits(&mut self, n: u64) -> String {
         (0..n).map(|_| (b'0' + self.below(10) as u8) as char).collect()
     }
 
@@ -178,6 +181,10 @@ impl Generator {
 
     fn unit(&mut self) -> String {
         let unit = self.pick(UNITS);
+        self.in_cases(unit)
+    }
+
+    fn in_cases(&mut self, unit: &str) -> String {
         let how = self.below(4);
         unit.chars()
             .map(|c| match how {
@@ -194,6 +201,51 @@ impl Generator {
     }
 
     fn interval(&mut self) -> String {
+        if self.one_in(4) { self.loose_interval() } else { self.divided_interval() }
+    }
+
+    /// An amount of the grammar, as a rule small.
+    fn plain_amount(&mut self) -> String {
+        let whole = match self.below(16) {
+            0 => self.limit().unsigned_abs().to_string(),
+            1 => format!("{:03}", self.below(10_000)),
+            _ => self.below(100).to_string(),
+        };
+        let n = [1, 1, 2, 3, 15][self.below(5) as usize];
+        let fraction = match self.below(12) {
+            0 => return format!("{}.{}", self.pick(&["", "-"]), self.digits(n)),
+            1 | 2 => format!(".{}", self.digits(n)),
+            _ => String::new(),
+        };
+        format!("{}{whole}{fraction}", self.pick(&["", "", "-"]))
+    }
+
+    /// An interval that has a division, with each unit once: of one in three years and months alone, of most nothing below milliseconds.
+    fn divided_interval(&mut self) -> String {
+        let among = [0..4, 0..4, 3..10, 3..10, 4..9, 0..12][self.below(6) as usize].clone();
+        let mut ranks: Vec<usize> = among.collect();
+        let n = if self.one_in(20) { ranks.len() } else { 1 + self.below(3) as usize };
+        let mut text = String::new();
+        for i in 0..n {
+            let rank = ranks.swap_remove(self.below(ranks.len() as u64) as usize);
+            if i > 0 {
+                text.push(self.white());
+            }
+            text += &self.plain_amount();
+            if i + 1 == n && self.one_in(8) {
+                break;
+            }
+            if !self.one_in(3) {
+                text.push(self.white());
+            }
+            let spelling = self.pick(&UNITS[FIRST[rank]..FIRST[rank + 1]]);
+            text += &self.in_cases(spelling);
+        }
+        text
+    }
+
+    /// Amounts and units with what the grammar does not have: signs, white space, components without a unit, units twice.
+    fn loose_interval(&mut self) -> String {
         let mut text = String::new();
         let n = if self.one_in(20) { self.below(14) } else { 1 + self.below(4) };
         for i in 0..n {
@@ -235,8 +287,9 @@ impl Generator {
         }
     }
 
-    /// A text of a family, now and then damaged, padded or long.
+    /// A text of a family, now and then damaged, padded or long; intervals less often, since hardly one survives it.
     pub fn text(&mut self, family: Family) -> Vec<u8> {
+        let rarer = if family == Family::Interval { 2 } else { 1 };
         let mut text = match (self.below(24), family) {
             (0, _) => self.pick(EDGES).to_string(),
             (_, Family::Stamp) => self.stamp(),
@@ -245,12 +298,12 @@ impl Generator {
             (_, Family::Interval) => self.interval(),
         }
         .into_bytes();
-        if self.one_in(3) {
+        if self.one_in(3 * rarer) {
             for _ in 0..1 + self.below(8) / 5 {
                 self.damage(&mut text);
             }
         }
-        if self.one_in(8) {
+        if self.one_in(8 * rarer) {
             let pads = self.pick(&[" ", "\t", "\n", "\r", "\x0C", "\x0B", "  "]).as_bytes().to_vec();
             if self.one_in(2) {
                 text.splice(0..0, pads);

@@ -12,9 +12,11 @@ pub enum Answer {
     Refused(Option<u8>),
 }
 
+pub mod bench;
 pub mod generate;
 pub mod library;
 pub mod lines;
+pub mod page;
 pub mod postgres;
 
 pub use Answer::*;
@@ -192,32 +194,4 @@ pub fn beyond_the_claim(reader: Reader, text: &[u8]) -> bool {
         _ => &clock[6..],
     };
     tail.trim_start().starts_with(|c: char| c == '+' || c == '-' || c.is_ascii_alphabetic())
-}
-
-/// The Rust's value alone, as a caller has it; refusals are not told apart.
-pub fn rust_quick(reader: Reader, s: &str) -> Answer {
-    fn of<T: Into<i64>, E>(value: Result<T, E>) -> Answer {
-        value.map_or(Refused(None), |z| One(z.into()))
-    }
-    match reader {
-        Reader::StringToTimestampNanos => of(string_to_timestamp_nanos(s)),
-        Reader::StringToTimeNanoseconds => of(string_to_time_nanoseconds(s)),
-        Reader::TimestampNanosecond => of(TimestampNanosecondType::parse(s).ok_or(())),
-        Reader::TimestampMicrosecond => of(TimestampMicrosecondType::parse(s).ok_or(())),
-        Reader::TimestampMillisecond => of(TimestampMillisecondType::parse(s).ok_or(())),
-        Reader::TimestampSecond => of(TimestampSecondType::parse(s).ok_or(())),
-        Reader::Time64Nanosecond => of(Time64NanosecondType::parse(s).ok_or(())),
-        Reader::Time64Microsecond => of(Time64MicrosecondType::parse(s).ok_or(())),
-        Reader::Time32Millisecond => of(Time32MillisecondType::parse(s).ok_or(())),
-        Reader::Time32Second => of(Time32SecondType::parse(s).ok_or(())),
-        Reader::Date32 => of(Date32Type::parse(s).ok_or(())),
-        Reader::Date64 => of(Date64Type::parse(s).ok_or(())),
-        Reader::IntervalYearMonth => of(parse_interval_year_month(s)),
-        Reader::IntervalDayTime => parse_interval_day_time(s).map_or(Refused(None), |(d, m)| Two(d as i64, m as i64)),
-        Reader::IntervalMonthDayNano => {
-            parse_interval_month_day_nano(s).map_or(Refused(None), |(m, d, n)| Three(m as i64, d as i64, n))
-        }
-        Reader::IntervalConfig(u) => parse_interval_month_day_nano_config(s, IntervalParseConfig::new(UNITS[u as usize]))
-            .map_or(Refused(None), |(m, d, n)| Three(m as i64, d as i64, n)),
-    }
 }

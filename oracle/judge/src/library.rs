@@ -1,32 +1,37 @@
 //! The delivered library's answers, through its C interface.
 use crate::{Answer, Answer::*, Reader};
 
+use raw::*;
+
 type Text = (*const u8, usize);
 
-extern "C" {
-    fn cullpethi_string_to_timestamp_nanos(text: *const u8, len: usize, out: &mut i64) -> u8;
-    fn cullpethi_string_to_time_nanoseconds(text: *const u8, len: usize, out: &mut i64) -> u8;
-    fn cullpethi_parse_timestamp_nanosecond(text: *const u8, len: usize, out: &mut i64) -> u8;
-    fn cullpethi_parse_timestamp_microsecond(text: *const u8, len: usize, out: &mut i64) -> u8;
-    fn cullpethi_parse_timestamp_millisecond(text: *const u8, len: usize, out: &mut i64) -> u8;
-    fn cullpethi_parse_timestamp_second(text: *const u8, len: usize, out: &mut i64) -> u8;
-    fn cullpethi_parse_time64_nanosecond(text: *const u8, len: usize, out: &mut i64) -> u8;
-    fn cullpethi_parse_time64_microsecond(text: *const u8, len: usize, out: &mut i64) -> u8;
-    fn cullpethi_parse_time32_millisecond(text: *const u8, len: usize, out: &mut i32) -> u8;
-    fn cullpethi_parse_time32_second(text: *const u8, len: usize, out: &mut i32) -> u8;
-    fn cullpethi_parse_date32(text: *const u8, len: usize, out: &mut i32) -> u8;
-    fn cullpethi_parse_date64(text: *const u8, len: usize, out: &mut i64) -> u8;
-    fn cullpethi_parse_interval_year_month(text: *const u8, len: usize, months: &mut i32) -> u8;
-    fn cullpethi_parse_interval_day_time(text: *const u8, len: usize, days: &mut i32, millis: &mut i32) -> u8;
-    fn cullpethi_parse_interval_month_day_nano(text: *const u8, len: usize, months: &mut i32, days: &mut i32, nanos: &mut i64) -> u8;
-    fn cullpethi_parse_interval_month_day_nano_config(
-        text: *const u8,
-        len: usize,
-        default_unit: u8,
-        months: &mut i32,
-        days: &mut i32,
-        nanos: &mut i64,
-    ) -> u8;
+/// The C interface.
+pub mod raw {
+    extern "C" {
+        pub fn cullpethi_string_to_timestamp_nanos(text: *const u8, len: usize, out: &mut i64) -> u8;
+        pub fn cullpethi_string_to_time_nanoseconds(text: *const u8, len: usize, out: &mut i64) -> u8;
+        pub fn cullpethi_parse_timestamp_nanosecond(text: *const u8, len: usize, out: &mut i64) -> u8;
+        pub fn cullpethi_parse_timestamp_microsecond(text: *const u8, len: usize, out: &mut i64) -> u8;
+        pub fn cullpethi_parse_timestamp_millisecond(text: *const u8, len: usize, out: &mut i64) -> u8;
+        pub fn cullpethi_parse_timestamp_second(text: *const u8, len: usize, out: &mut i64) -> u8;
+        pub fn cullpethi_parse_time64_nanosecond(text: *const u8, len: usize, out: &mut i64) -> u8;
+        pub fn cullpethi_parse_time64_microsecond(text: *const u8, len: usize, out: &mut i64) -> u8;
+        pub fn cullpethi_parse_time32_millisecond(text: *const u8, len: usize, out: &mut i32) -> u8;
+        pub fn cullpethi_parse_time32_second(text: *const u8, len: usize, out: &mut i32) -> u8;
+        pub fn cullpethi_parse_date32(text: *const u8, len: usize, out: &mut i32) -> u8;
+        pub fn cullpethi_parse_date64(text: *const u8, len: usize, out: &mut i64) -> u8;
+        pub fn cullpethi_parse_interval_year_month(text: *const u8, len: usize, months: &mut i32) -> u8;
+        pub fn cullpethi_parse_interval_day_time(text: *const u8, len: usize, days: &mut i32, millis: &mut i32) -> u8;
+        pub fn cullpethi_parse_interval_month_day_nano(text: *const u8, len: usize, months: &mut i32, days: &mut i32, nanos: &mut i64) -> u8;
+        pub fn cullpethi_parse_interval_month_day_nano_config(
+            text: *const u8,
+            len: usize,
+            default_unit: u8,
+            months: &mut i32,
+            days: &mut i32,
+            nanos: &mut i64,
+        ) -> u8;
+    }
 }
 
 /// What a cell holds before each call; a refusal must leave it.

@@ -19,15 +19,15 @@ in-count c =
     counts _ (s .args .year) (rw (toZ-ofZ (s .fits .year)) at (c .counted .ensures .0))
 
 -- from the place where all calls have returned, back to where the table was read, and to the entry
-abbrev year : tie.After-days-before2 → tie.After-year-at
+abbrev year : tie.After-days-before2 → tie.After-year-of-cycle
 year c = c .before .before .before
 
 abbrev entry : tie.After-days-before2 → tie.Start
 entry c = year c .before .before .before .before
 
 module _ (c : tie.After-days-before2) where
-  leap-year : eqb (year c .year-at .result .days) 366 ≡ leap (entry c .args .year)
-  leap-year = is-leap (entry c .args .year) _ (in-count (year c .before)) _ (year c .year-at .ensures .1)
+  leap-year : eqb (year c .year-of-cycle .result .days) 366 ≡ leap (entry c .args .year)
+  leap-year = is-leap (entry c .args .year) _ (in-count (year c .before)) _ (year c .year-of-cycle .ensures .1)
 
   month-start : c .before .days-before .result ≡ before (leap (entry c .args .year)) (entry c .args .month)
   month-start = rw leap-year at (c .before .days-before .ensures)
@@ -51,8 +51,8 @@ returns-2 c =
 counted-requires : tie.Need-counted-requires
 counted-requires c κs = search needs
 
-year-at-requires : tie.Need-year-at-requires
-year-at-requires c κs = search needs
+year-of-cycle-requires : tie.Need-year-of-cycle-requires
+year-of-cycle-requires c κs = search needs
 
 days-before-requires : tie.Need-days-before-requires
 days-before-requires c κs = search needs
@@ -95,21 +95,21 @@ cast-u-3 c = search needs
 add-u-3 : tie.Need-add-u-3
 add-u-3 c = search needs
 
-cast-t20 : tie.Need-cast-t20
-cast-t20 c = search needs
+cast-t21 : tie.Need-cast-t21
+cast-t21 c = search needs
 
-sub-t21 : tie.Need-sub-t21
-sub-t21 c = search (difference (cast-t20 c .sfits), needs)
+sub-t22 : tie.Need-sub-t22
+sub-t22 c = search (difference (cast-t21 c .sfits), needs)
 
 returns-5 : tie.Need-returns-5
 returns-5 c =
     let k = c .before .before .before in
     let n = year k .before .counted .result in
     let v = entry k .args in
-    rw (toZ-ofZ (sub-t21 c))
+    rw (toZ-ofZ (sub-t22 c))
     (search (
-      number (v .year) n (in-count (year k .before)) (v .month) (v .day-of-month) (cast-t20 c .sfits)
-          (omega (arith, by-cycle n, year k .year-at .ensures .0, month-start k))
+      number (v .year) n (in-count (year k .before)) (v .month) (v .day-of-month) (cast-t21 c .sfits)
+          (omega (arith, by-cycle n, year k .year-of-cycle .ensures .0, month-start k))
           (c .before .before .if3 .left)
           (omega (arith, month k, c .before .if4 .left)),
       epoch,
@@ -122,7 +122,7 @@ days-from-ymd-spec =
     returns
     returns-2
     counted-requires
-    year-at-requires
+    year-of-cycle-requires
     days-before-requires
     add-days-before
     days-before-requires-2
@@ -136,6 +136,6 @@ days-from-ymd-spec =
     add-u-2
     cast-u-3
     add-u-3
-    cast-t20
-    sub-t21
+    cast-t21
+    sub-t22
     returns-5)

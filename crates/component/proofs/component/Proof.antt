@@ -1,17 +1,18 @@
 -- `component::component` meets its contract: nothing stands past the end, and a reader finds what stands before it. Assumes nothing.
+use mathlib.Core.Path.{refl}
 use native.Mathlib.Omega.{arith}
 use borrow.Author.Needs.{needs}
 use Rattle.component.specs.Grammar.{precision}
-use Rattle.component.specs.Read.{pieceIs}
+use Rattle.component.specs.Read.{pieceIs, placeAfter, takenIs}
 use Rattle.component.proofs.Steps.{past-end}
 use Rattle.component.proofs.component.Statement.{statement}
 use Rattle.component.proofs.component.Tie as tie
 
 returns : tie.Need-returns
-unfolding pieceIs
+unfolding takenIs pieceIs placeAfter
 returns c =
     let x = c .before .before .args in
-    past-end precision (x .text .now) (x .at) (omega (arith, c .if1 .taken))
+    (past-end precision (x .text .now) (x .at) (omega (arith, c .if1 .taken)), refl)
 
 component-at-requires : tie.Need-component-at-requires
 component-at-requires c κs = search needs

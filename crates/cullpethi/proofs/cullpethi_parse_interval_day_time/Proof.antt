@@ -10,7 +10,7 @@ put-day-time-requires : tie.Need-put-day-time-requires
 put-day-time-requires c κs = search needs
 
 returns : tie.Need-returns
-returns c = rw (c .before .before .before .parse-interval-day-time .ensures) at (c .put-day-time .ensures)
+returns c = rw (c .before .before .before .parse-interval-day-time .ensures .0) at (c .put-day-time .ensures)
 
 pub cullpethi-parse-interval-day-time-spec : {M : Type 1} → statement M
 cullpethi-parse-interval-day-time-spec =

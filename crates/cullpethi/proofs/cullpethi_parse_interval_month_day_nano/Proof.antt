@@ -10,7 +10,7 @@ put-interval-requires : tie.Need-put-interval-requires
 put-interval-requires c κs = search needs
 
 returns : tie.Need-returns
-returns c = rw (c .before .before .before .before .parse-interval-month-day-nano .ensures) at (c .put-interval .ensures)
+returns c = rw (c .before .before .before .before .parse-interval-month-day-nano .ensures .0) at (c .put-interval .ensures)
 
 pub cullpethi-parse-interval-month-day-nano-spec : {M : Type 1} → statement M
 cullpethi-parse-interval-month-day-nano-spec =

@@ -1,8 +1,8 @@
 -- `cullpethi::cullpethi_parse_interval_month_day_nano_config` meets its contract: the outcome in the unit is told, or 255. Assumes nothing.
 use mathlib.Core.Path.{refl, sym, ap, _∙_}
 use mathlib.Core.Option.{Option}
-use Rattle.component.specs.Read.{unitRead}
-use Rattle.component.specs.declared.IntervalUnit.{IntervalUnit}
+use Rattle.unit.specs.Read.{unitRead}
+use Rattle.unit.specs.declared.IntervalUnit.{IntervalUnit}
 use Rattle.interval.specs.Contribution.{counts}
 use Rattle.cullpethi.specs.Cells.{inUnit}
 use Rattle.cullpethi.proofs.Numbering.{in-unit}
@@ -37,7 +37,7 @@ returns c =
     let x = w .before .before in
     let m = x .before .before in
     let a = m .before .before .args in
-    rw (in-unit (a .text .now) (p .parse-interval-month-day-nano-config .ensures) (w .new .ensures)
+    rw (in-unit (a .text .now) (p .parse-interval-month-day-nano-config .ensures .0) (w .new .ensures)
     (sym (ap unitRead (x .unit .given .1)) ∙ m .unit-numbered .ensures)) at (c .put-interval .ensures)
 
 returns-2 : tie.Need-returns-2

@@ -10,7 +10,7 @@ put32-requires : tie.Need-put32-requires
 put32-requires c κs = search needs
 
 returns : tie.Need-returns
-returns c = rw (c .before .before .parse-interval-year-month .ensures) at (c .put32 .ensures)
+returns c = rw (c .before .before .parse-interval-year-month .ensures .0) at (c .put32 .ensures)
 
 pub cullpethi-parse-interval-year-month-spec : {M : Type 1} → statement M
 cullpethi-parse-interval-year-month-spec =

@@ -2,7 +2,9 @@
 use borrow.Author.Needs.{needs}
 use mathlib.Core.Path.{sym, ap, _∙_}
 use Rattle.interval.specs.Answer.{toDayTime, dayTime}
-use Rattle.interval.specs.Read.{intervalOutcome, maybeDayTime}
+use Rattle.interval.specs.Read.{intervalOutcome}
+use Rattle.interval.specs.Helpers.{maybeDayTime}
+use Rattle.interval.proofs.Demand3.{day-time-meant}
 use Rattle.interval.proofs.Narrower.{narrows-to, narrows-none, narrows-refused}
 use Rattle.interval.proofs.parse_interval_day_time.Statement.{statement}
 use Rattle.interval.proofs.parse_interval_day_time.Tie as tie
@@ -35,7 +37,7 @@ returns c =
     let i = y .before .before in
     let p = i .before .before in
     let o = sym (rw (p .before .new .ensures) at (p .parse .ensures)) ∙ ap intervalOutcome (i .interval .given .1) in
-    narrows-to toDayTime o (sym (ap maybeDayTime (c .before .both .given .1)) ∙ y .to-day-time .ensures)
+    day-time-meant (narrows-to toDayTime o (sym (ap maybeDayTime (c .before .both .given .1)) ∙ y .to-day-time .ensures))
 
 returns-2 : tie.Need-returns-2
 unfolding dayTime
@@ -44,13 +46,13 @@ returns-2 c =
     let i = y .before .before in
     let p = i .before .before in
     let o = sym (rw (p .before .new .ensures) at (p .parse .ensures)) ∙ ap intervalOutcome (i .interval .given .1) in
-    narrows-none toDayTime o (sym (ap maybeDayTime (c .enum-told .given .1)) ∙ y .to-day-time .ensures)
+    day-time-meant (narrows-none toDayTime o (sym (ap maybeDayTime (c .enum-told .given .1)) ∙ y .to-day-time .ensures))
 
 returns-3 : tie.Need-returns-3
 unfolding dayTime
 returns-3 c =
     let p = c .before .before .before in
-    narrows-refused toDayTime (sym (rw (p .before .new .ensures) at (p .parse .ensures)) ∙ ap intervalOutcome (c .before .why .given .1))
+    day-time-meant (narrows-refused toDayTime (sym (rw (p .before .new .ensures) at (p .parse .ensures)) ∙ ap intervalOutcome (c .before .why .given .1)))
 
 pub parse-interval-day-time-spec : {M : Type 1} → statement M
 parse-interval-day-time-spec =

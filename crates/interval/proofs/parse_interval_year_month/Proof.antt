@@ -3,9 +3,10 @@ use borrow.Author.Needs.{needs}
 use mathlib.Core.Path.{sym, ap, _∙_}
 use mir.Syntax.{w32}
 use mir.Facts.{toZ-ofZ}
-use Rattle.number.specs.Widths.{int32}
 use Rattle.interval.specs.Answer.{toYearMonths, yearMonth}
 use Rattle.interval.specs.Read.{intervalOutcome}
+use Rattle.interval.specs.Helpers.{maybeMonths}
+use Rattle.interval.proofs.Demand3.{year-month-meant}
 use Rattle.interval.proofs.Narrower.{narrows-to, narrows-none, narrows-refused}
 use Rattle.interval.proofs.parse_interval_year_month.Statement.{statement}
 use Rattle.interval.proofs.parse_interval_year_month.Tie as tie
@@ -34,11 +35,12 @@ enum-known-why c = search needs
 returns : tie.Need-returns
 unfolding yearMonth
 returns c =
-    let y = c .before .before .before in
+    let m = c .before .before in
+    let y = m .before .before in
     let i = y .before .before in
     let p = i .before .before in
     let o = sym (rw (p .before .new .ensures) at (p .parse .ensures)) ∙ ap intervalOutcome (i .interval .given .1) in
-    narrows-to toYearMonths o (rw (toZ-ofZ {w = w32} (record { sfits = c .known-told2 .given .0 .1 })) (sym (ap int32 (c .before .months .given .1)) ∙ y .to-year-months .ensures))
+    year-month-meant (narrows-to toYearMonths o (rw (toZ-ofZ {w = w32} (record { sfits = c .struct-told .given .0 .1 })) (sym (ap maybeMonths (m .months .given .1)) ∙ y .to-year-months .ensures)))
 
 returns-2 : tie.Need-returns-2
 unfolding yearMonth
@@ -47,13 +49,13 @@ returns-2 c =
     let i = y .before .before in
     let p = i .before .before in
     let o = sym (rw (p .before .new .ensures) at (p .parse .ensures)) ∙ ap intervalOutcome (i .interval .given .1) in
-    narrows-none toYearMonths o (sym (ap int32 (c .enum-told .given .1)) ∙ y .to-year-months .ensures)
+    year-month-meant (narrows-none toYearMonths o (sym (ap maybeMonths (c .enum-told .given .1)) ∙ y .to-year-months .ensures))
 
 returns-3 : tie.Need-returns-3
 unfolding yearMonth
 returns-3 c =
     let p = c .before .before .before in
-    narrows-refused toYearMonths (sym (rw (p .before .new .ensures) at (p .parse .ensures)) ∙ ap intervalOutcome (c .before .why .given .1))
+    year-month-meant (narrows-refused toYearMonths (sym (rw (p .before .new .ensures) at (p .parse .ensures)) ∙ ap intervalOutcome (c .before .why .given .1)))
 
 pub parse-interval-year-month-spec : {M : Type 1} → statement M
 parse-interval-year-month-spec =

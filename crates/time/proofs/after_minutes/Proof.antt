@@ -4,7 +4,8 @@ use Prim.Native.Nat.{_+_}
 use lib.ListN.{drop}
 use borrow.Author.Needs.{needs}
 use Rattle.time.specs.declared.Fraction.{Fraction}
-use Rattle.time.specs.Answer.{inDay, fractionOf, withFraction, afterMinutes, fractionIs}
+use Rattle.time.specs.Answer.{inDay, fractionOf, withFraction, afterMinutes}
+use Rattle.time.specs.Helpers.{fractionIs}
 use Rattle.time.proofs.Fields.{no-seconds, not-seconds, with-seconds}
 use Rattle.time.proofs.Fractions.{below-second}
 use Rattle.time.proofs.after_minutes.Statement.{statement}

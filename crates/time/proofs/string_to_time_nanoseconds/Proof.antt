@@ -4,8 +4,8 @@ use mathlib.Core.Option.{some}
 use mir.Syntax.{w64}
 use mir.Facts.{toZ-ofZ}
 use borrow.Author.Needs.{needs}
-use Rattle.timestamp.specs.Clock.{nanosOfDay, timeIs}
-use Rattle.timestamp.proofs.Outcomes.{refused-in}
+use Rattle.clock.specs.Clock.{nanosOfDay, timeIs}
+use Rattle.refusal.proofs.Outcomes.{refused-in}
 use Rattle.time.specs.Answer.{timeOfDay, onTime}
 use Rattle.time.proofs.Agreement.{read-utf8}
 use Rattle.time.proofs.string_to_time_nanoseconds.Statement.{statement}

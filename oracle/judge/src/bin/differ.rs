@@ -3,12 +3,14 @@ use judge::generate::{Family, Generator};
 use judge::library::library;
 use judge::*;
 
-const STAMPS: [Reader; 5] = [
+const STAMPS: [Reader; 7] = [
     Reader::StringToTimestampNanos,
     Reader::TimestampNanosecond,
     Reader::TimestampMicrosecond,
     Reader::TimestampMillisecond,
     Reader::TimestampSecond,
+    Reader::Date32,
+    Reader::Date64,
 ];
 const TIMES: [Reader; 5] = [
     Reader::StringToTimeNanoseconds,
@@ -17,16 +19,37 @@ const TIMES: [Reader; 5] = [
     Reader::Time32Millisecond,
     Reader::Time32Second,
 ];
-const DATES: [Reader; 2] = [Reader::Date32, Reader::Date64];
-const INTERVALS: [Reader; 3] = [Reader::IntervalYearMonth, Reader::IntervalDayTime, Reader::IntervalMonthDayNano];
+const DATES: [Reader; 3] = [Reader::Date32, Reader::Date64, Reader::StringToTimestampNanos];
+/// The default unit of the last is drawn for each text.
+const INTERVALS: [Reader; 4] =
+    [Reader::IntervalYearMonth, Reader::IntervalDayTime, Reader::IntervalMonthDayNano, Reader::IntervalConfig(0)];
 
-#[derive(Default)]
+fn readers(family: Family) -> &'static [Reader] {
+    match family {
+        Family::Stamp => &STAMPS,
+        Family::Time => &TIMES,
+        Family::Date => &DATES,
+        Family::Interval => &INTERVALS,
+    }
+}
+
+#[derive(Clone, Copy, Default)]
 struct Counts {
     compared: u64,
     accepted: u64,
     not_utf8: u64,
     number_untold: u64,
     differ: u64,
+}
+
+impl std::ops::AddAssign for Counts {
+    fn add_assign(&mut self, of: Self) {
+        self.compared += of.compared;
+        self.accepted += of.accepted;
+        self.not_utf8 += of.not_utf8;
+        self.number_untold += of.number_untold;
+        self.differ += of.differ;
+    }
 }
 
 /// Whether the answers agree; where the Rust does not tell the number of a refusal, 2 and 6 are possible.
@@ -49,20 +72,20 @@ fn compare(reader: Reader, text: &[u8], n: &mut Counts) {
     }
 }
 
-fn on_all(family: Family, g: &mut Generator, text: &[u8], n: &mut Counts) {
-    match family {
-        Family::Stamp => STAMPS.iter().chain(&DATES).for_each(|r| compare(*r, text, n)),
-        Family::Time => TIMES.iter().for_each(|r| compare(*r, text, n)),
-        Family::Date => DATES.iter().chain(&STAMPS[..1]).for_each(|r| compare(*r, text, n)),
-        Family::Interval => {
-            INTERVALS.iter().for_each(|r| compare(*r, text, n));
-            compare(Reader::IntervalConfig(g.below(12) as u8), text, n);
+/// The counts of a family's readers, in their order.
+type Counted = [Counts; 7];
+
+fn on_all(family: Family, g: &mut Generator, text: &[u8], n: &mut Counted) {
+    for (reader, n) in readers(family).iter().zip(n) {
+        match reader {
+            Reader::IntervalConfig(_) => compare(Reader::IntervalConfig(g.below(12) as u8), text, n),
+            _ => compare(*reader, text, n),
         }
     }
 }
 
 /// All texts over an alphabet of at most so many symbols, behind a beginning.
-fn exhaust(family: Family, begin: &str, alphabet: &[&str], most: u32, g: &mut Generator, n: &mut Counts) {
+fn exhaust(family: Family, begin: &str, alphabet: &[&str], most: u32, g: &mut Generator, n: &mut Counted) {
     let k = alphabet.len() as u64;
     for length in 0..=most {
         for mut code in 0..k.pow(length) {
@@ -76,6 +99,38 @@ fn exhaust(family: Family, begin: &str, alphabet: &[&str], most: u32, g: &mut Ge
     }
 }
 
+/// All short texts of a family.
+fn short(family: Family, g: &mut Generator) -> Counted {
+    let mut n = Counted::default();
+    match family {
+        Family::Stamp => exhaust(family, "1970-01-0", &["1", "T", " ", "0", ":", "Z", "."], 6, g, &mut n),
+        Family::Time => exhaust(family, "", &["0", "1", "2", "6", ":", ".", " ", "A", "M", "p"], 6, g, &mut n),
+        Family::Date => exhaust(family, "", &["0", "1", "2", "-", "+", "x", "é"], 7, g, &mut n),
+        Family::Interval => exhaust(family, "", &["1", "0", "-", ".", " ", "d", "m", "s", "\u{212A}", "w"], 6, g, &mut n),
+    }
+    n
+}
+
+fn sum(of: &Counted) -> Counts {
+    let mut all = Counts::default();
+    of.iter().for_each(|n| all += *n);
+    all
+}
+
+/// What share of the generated texts is accepted: of all comparisons, and of each reader's.
+fn shares(family: Family, generated: &Counted) -> String {
+    let share = |n: &Counts| format!("{:.1} %", 100.0 * n.accepted as f64 / n.compared.max(1) as f64);
+    let each: Vec<String> = readers(family).iter().zip(generated).map(|(r, n)| format!("{} {}", named(*r), share(n))).collect();
+    format!("{} ({})", share(&sum(generated)), each.join(", "))
+}
+
+fn named(reader: Reader) -> String {
+    match reader {
+        Reader::IntervalConfig(_) => "IntervalConfig".to_string(),
+        _ => format!("{reader:?}"),
+    }
+}
+
 fn main() {
     let mut args = std::env::args().skip(1).map(|a| a.parse::<u64>().expect("differ SEED COUNT"));
     let (seed, count) = (args.next().unwrap_or(1), args.next().unwrap_or(1_000_000));
@@ -83,21 +138,18 @@ fn main() {
     println!("seed {seed}, {count} texts a family");
     for family in [Family::Stamp, Family::Time, Family::Date, Family::Interval] {
         let mut g = Generator::new(seed ^ (family as u64) << 56);
-        let mut n = Counts::default();
-        match family {
-            Family::Stamp => exhaust(family, "1970-01-0", &["1", "T", " ", "0", ":", "Z", "."], 6, &mut g, &mut n),
-            Family::Time => exhaust(family, "", &["0", "1", "2", "6", ":", ".", " ", "A", "M", "p"], 6, &mut g, &mut n),
-            Family::Date => exhaust(family, "", &["0", "1", "2", "-", "+", "x", "é"], 7, &mut g, &mut n),
-            Family::Interval => exhaust(family, "", &["1", "0", "-", ".", " ", "d", "m", "s", "\u{212A}", "w"], 6, &mut g, &mut n),
-        }
+        let mut n = sum(&short(family, &mut g));
+        let mut generated = Counted::default();
         for _ in 0..count {
             let text = g.text(family);
-            on_all(family, &mut g, &text, &mut n);
+            on_all(family, &mut g, &text, &mut generated);
         }
+        n += sum(&generated);
         println!(
             "{family:?}: compared {}, accepted {}, not UTF-8 {}, number untold by the Rust {}, different {}",
             n.compared, n.accepted, n.not_utf8, n.number_untold, n.differ
         );
+        println!("  accepted of the generated: {}", shares(family, &generated));
         passed += n.compared - n.differ;
         failed += n.differ;
     }

@@ -1,6 +1,6 @@
 //! postgres texts: the interval texts that `oracle/postgres` puts to PostgreSQL, in hexadecimal digits.
-//! postgres compare FILE: PostgreSQL's answers from standard input, in the same order, beside the library's; FILE gets the table of
-//! differences.
+//! postgres compare PAGE: PostgreSQL's answers from standard input, in the same order, beside the library's; PAGE gets the tables of
+//! differences between its marks.
 use judge::library::library;
 use judge::lines::escape;
 use judge::postgres::told::{SAME, TOLD};
@@ -155,7 +155,9 @@ fn main() {
             kinds.entry((c.reads(), kind)).or_default().push(c);
         }
     }
-    page(&all, &kinds, &mut std::fs::File::create(&args[1]).unwrap()).unwrap();
+    let mut tables = vec![];
+    page(&all, &kinds, &mut tables).unwrap();
+    judge::page::rewrite(&args[1], "oracle/postgres", &String::from_utf8(tables).unwrap()).unwrap();
     let unknown: Vec<&&Compared> = kinds.iter().filter(|((_, k), _)| *k == Kind::Unknown).flat_map(|(_, of)| of).collect();
     unknown.iter().take(20).for_each(|c| println!("no known kind: {:?}, here {}, there {}", c.text, c.here(), c.there()));
     kinds.iter().for_each(|((reads, kind), of)| println!("read by {reads:?}, {kind:?}: {}", of.len()));

@@ -1,18 +1,29 @@
--- `calendar::cycle::year_of_cycle` meets its contract, since the table is right. Assumes nothing.
+-- `calendar::cycle::year_of_cycle` meets its contract, by what the lent table holds. Assumes nothing.
 use borrow.Author.Needs.{needs}
 use native.Mathlib.Omega.{arith}
-use Prim.Native.Nat.{_+_, _<_}
-use Rattle.calendar.specs.Cycle.{starts}
+use mathlib.Core.Path.{_≡_}
+use Prim.Native.Nat.{_+_}
+use lib.IntN.{pos}
+use lib.ListN.{getD}
+use Rattle.calendar.specs.Calendar.{yearDays}
+use Rattle.calendar.specs.Cycle.{start}
 use Rattle.calendar.proofs.Starts.{year-start}
 use Rattle.calendar.proofs.Years.{year-after}
 use Rattle.calendar.proofs.cycle.year_of_cycle.Statement.{statement}
 use Rattle.calendar.proofs.cycle.year_of_cycle.Tie as tie
 
+module _ (c : tie.Start) where
+  first : getD (c .args .starts .now) (c .args .y) 0 ≡ start (c .args .y)
+  first = year-start (c .args .starts .now) (c .pre .0) (c .args .y) (omega arith)
+
+  next : getD (c .args .starts .now) (c .args .y + 1) 0 ≡ getD (c .args .starts .now) (c .args .y) 0 + yearDays (pos (c .args .y))
+  next = omega (arith, first, year-start (c .args .starts .now) (c .pre .0) (c .args .y + 1) (omega arith), year-after (c .args .y))
+
 mul-start : tie.Need-mul-start
 mul-start c = search needs
 
-array-read-start : tie.Need-array-read-start
-array-read-start c = search needs
+element-copy-out-start : tie.Need-element-copy-out-start
+element-copy-out-start c = search needs
 
 add-end : tie.Need-add-end
 add-end c = search needs
@@ -20,23 +31,16 @@ add-end c = search needs
 mul-end : tie.Need-mul-end
 mul-end c = search needs
 
-array-read-end : tie.Need-array-read-end
-array-read-end c = search needs
+element-copy-out-end : tie.Need-element-copy-out-end
+element-copy-out-end c = search needs
 
-sub-t9 : tie.Need-sub-t9
-unfolding starts
-sub-t9 c =
-    let h : c .args .y < 401 = omega arith in
-    let k : c .args .y + 1 < 401 = omega arith in
-    rw (year-start _ (c .args .y), year-start) (omega (arith, year-after (c .args .y)))
+sub-t8 : tie.Need-sub-t8
+sub-t8 c = omega (arith, next (c .before .before))
 
 returns : tie.Need-returns
-unfolding starts
-returns c =
-    let h : c .args .y < 401 = omega arith in
-    let k : c .args .y + 1 < 401 = omega arith in
-    (rw year-start, rw (year-start _ (c .args .y), year-start) (omega (arith, year-after (c .args .y))))
+returns c = (omega (arith, first (c .before .before)), omega (arith, next (c .before .before)))
 
 pub year-of-cycle-spec : {M : Type 1} → statement M
 year-of-cycle-spec =
-    tie.close (tie.spec mul-start array-read-start add-end mul-end array-read-end sub-t9 returns)
+    tie.close
+    (tie.spec mul-start element-copy-out-start add-end mul-end element-copy-out-end sub-t8 returns)

@@ -26,8 +26,8 @@ parse-date-requires c κs = search needs
 enum-known-day : tie.Need-enum-known-day
 enum-known-day c = search needs
 
-mul-t6 : tie.Need-mul-t6
-mul-t6 c =
+mul-t7 : tie.Need-mul-t7
+mul-t7 c =
     let e = c .before .before .before .before .before in
     day-fits (wide c) (short-most (e .args .s .now) (c .before .day .given .0 .0) (sym (named c)) (search (e, needs)))
 
@@ -46,4 +46,4 @@ returns-2 c =
 
 pub day-millis-spec : {M : Type 1} → statement M
 day-millis-spec =
-    tie.close (tie.spec parse-date-requires enum-known-day mul-t6 enum-known-why returns returns-2)
+    tie.close (tie.spec parse-date-requires enum-known-day mul-t7 enum-known-why returns returns-2)

@@ -4,7 +4,8 @@ use mir.Syntax.{w64}
 use lib.IntN.{ℤ}
 use mir.Facts.{toZ-ofZ}
 use Rattle.refusal.specs.Outcome.{Outcome, accepted, andThen}
-use Rattle.timestamp.specs.Answer.{Moment, instant, momentOf, momentIs, datetime}
+use Rattle.timestamp.specs.Answer.{momentOf, momentIs, datetime}
+use Rattle.timestamp.specs.Meaning.{Moment, instant}
 use Rattle.timestamp.proofs.Agreement.{agrees}
 use Rattle.timestamp.proofs.Bounds.{moment-most}
 use Rattle.column.specs.Columns.{millis}

@@ -1,6 +1,7 @@
 -- `column::times::found_i64` meets its contract, by the laws of a time column. Assumes nothing.
 use mathlib.Core.Path.{sym, ap, _∙_}
 use Rattle.refusal.specs.Outcome.{outcome64}
+use mir.Syntax.{w64}
 use Rattle.column.proofs.Outcomes.{a-time, no-time}
 use borrow.Author.Needs.{needs}
 use Rattle.column.proofs.times.found_i64.Statement.{statement}
@@ -9,8 +10,8 @@ use Rattle.column.proofs.times.found_i64.Tie as tie
 string-to-time-nanoseconds-requires : tie.Need-string-to-time-nanoseconds-requires
 string-to-time-nanoseconds-requires c κs = search needs
 
-enum-known-n : tie.Need-enum-known-n
-enum-known-n c = search needs
+enum-known-nanos : tie.Need-enum-known-nanos
+enum-known-nanos c = search needs
 
 enum-told : tie.Need-enum-told
 enum-told c = search needs
@@ -23,7 +24,8 @@ returns c k =
     let x = c .before in
     let p = x .before .before in
     let a = p .before .before .args in
-    a-time k 64 (a .s .now) {z = x .n .given .0 .0} (record { sfits = c .known-told .given .0 .1 }) (sym (ap outcome64 (x .n .given .1)) ∙ p .string-to-time-nanoseconds .ensures)
+    a-time k 64 (a .s .now) {w = w64} {z = x .nanos .given .0 .0} (record { sfits = c .known-told .given .0 .1 })
+    (sym (ap outcome64 (x .nanos .given .1)) ∙ p .string-to-time-nanoseconds .ensures)
 
 returns-2 : tie.Need-returns-2
 returns-2 c k =
@@ -37,7 +39,7 @@ found-i64-spec =
     tie.close
     (tie.spec
     string-to-time-nanoseconds-requires
-    enum-known-n
+    enum-known-nanos
     enum-told
     integer-or-trimmed-requires
     returns

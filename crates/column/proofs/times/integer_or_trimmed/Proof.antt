@@ -1,9 +1,12 @@
 -- `column::times::integer_or_trimmed` meets its contract, by the laws of a time column. Assumes nothing.
 use mathlib.Core.Path.{sym, ap, _∙_}
+use mathlib.Core.List.{List}
+use Prim.Native.Nat.{ℕ}
 use Rattle.number.specs.Widths.{int64}
 use Rattle.time.specs.Answer.{timeNanos}
 use Rattle.column.specs.Columns.{divided}
 use Rattle.column.specs.Found.{bitsOf}
+use mir.Syntax.{w64}
 use Rattle.column.proofs.Outcomes.{an-integer, no-integer}
 use borrow.Author.Needs.{needs}
 use Rattle.column.proofs.times.integer_or_trimmed.Statement.{statement}
@@ -21,15 +24,16 @@ enum-told c = search needs
 trim-pre-and-post-whitespace-requires : tie.Need-trim-pre-and-post-whitespace-requires
 trim-pre-and-post-whitespace-requires c κs = search needs
 
-string-to-time-nanoseconds-requires : tie.Need-string-to-time-nanoseconds-requires
-string-to-time-nanoseconds-requires c κs = search needs
+time-or-refusal-requires : tie.Need-time-or-refusal-requires
+time-or-refusal-requires c κs = search needs
 
 returns : tie.Need-returns
 returns c k =
     let x = c .before in
     let p = x .before .before in
     let a = p .before .before .args in
-    an-integer k (bitsOf (a .wide)) (a .s .now) {z = x .z .given .0 .0} (record { sfits = c .known-told .given .0 .1 }) (sym (ap int64 (x .z .given .1)) ∙ p .parse-integer .ensures)
+    an-integer k (bitsOf (a .wide)) (a .s .now) {w = w64} {z = x .z .given .0 .0} (record { sfits = c .known-told .given .0 .1 })
+    (sym (ap int64 (x .z .given .1)) ∙ p .parse-integer .ensures)
 
 returns-2 : tie.Need-returns-2
 returns-2 c k =
@@ -37,7 +41,7 @@ returns-2 c k =
     let p = x .before .before in
     let a = p .before .before .args in
     no-integer k (bitsOf (a .wide)) (a .s .now) (sym (ap int64 (x .enum-told .given .1)) ∙ p .parse-integer .ensures)
-    (ap (divided k) (c .string-to-time-nanoseconds .ensures ∙ ap timeNanos (c .before .trim-pre-and-post-whitespace .ensures)))
+    (c .time-or-refusal .ensures k ∙ ap (λ (t : List ℕ). divided k (timeNanos t)) (c .before .trim-pre-and-post-whitespace .ensures))
 
 pub integer-or-trimmed-spec : {M : Type 1} → statement M
 integer-or-trimmed-spec =
@@ -47,6 +51,6 @@ integer-or-trimmed-spec =
     enum-known-z
     enum-told
     trim-pre-and-post-whitespace-requires
-    string-to-time-nanoseconds-requires
+    time-or-refusal-requires
     returns
     returns-2)

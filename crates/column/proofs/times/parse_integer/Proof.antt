@@ -3,7 +3,10 @@ use mathlib.Core.Path.{sym, ap, _∙_}
 use mathlib.Core.Option.{some}
 use borrow.Author.Needs.{needs}
 use Rattle.number.specs.Widths.{int32}
-use Rattle.column.proofs.Ranges.{widen-fits, widened}
+use mir.Syntax.{w32, w64}
+use mir.Val.{SFits}
+use mir.Facts.{sfits-widen}
+use Rattle.number.proofs.Narrowing.{widens, cast-is}
 use Rattle.column.proofs.times.parse_integer.Statement.{statement}
 use Rattle.column.proofs.times.parse_integer.Tie as tie
 
@@ -20,7 +23,7 @@ enum-known-z : tie.Need-enum-known-z
 enum-known-z c = search needs
 
 cast-t7 : tie.Need-cast-t7
-cast-t7 c = widen-fits {z = c .before .z .given .0 .0} (record { sfits = c .known-told .given .0 .1 })
+cast-t7 c = widens {w = w32} {v = w64} {a = c .before .z .given .0 .0} (record { sfits = c .known-told .given .0 .1 }) tt
 
 enum-told : tie.Need-enum-told
 enum-told c = search needs
@@ -29,7 +32,8 @@ returns-2 : tie.Need-returns-2
 returns-2 c =
     let x = c .before in
     let p = x .before .before in
-    rw (p .before .if1 .left) (ap some (widened (record { sfits = c .known-told .given .0 .1 })) ∙ sym (ap int32 (x .z .given .1)) ∙ p .parse-i32 .ensures)
+    let f : SFits w32 (x .z .given .0 .0) = record { sfits = c .known-told .given .0 .1 } in
+    rw (p .before .if1 .left) (ap some (cast-is f (sfits-widen {w = w32} {w′ = w64} tt f)) ∙ sym (ap int32 (x .z .given .1)) ∙ p .parse-i32 .ensures)
 
 returns-3 : tie.Need-returns-3
 returns-3 c =

@@ -1,5 +1,6 @@
 -- `column::units::millis` meets its contract, by the law of a quotient. Assumes nothing.
 use mathlib.Core.Path.{sym, ap, _∙_}
+use mir.Syntax.{w64}
 use Rattle.column.proofs.Outcomes.{perUnit, in-unit}
 use borrow.Author.Needs.{needs}
 use Rattle.column.proofs.units.millis.Statement.{statement}
@@ -17,7 +18,8 @@ enum-known-nanos-2 c = search needs
 returns : tie.Need-returns
 returns c =
     let x = c .before .before in
-    in-unit 1000000 {n = x .nanos .given .0 .0} {r = c .to-millis .result} (record { sfits = c .before .known-told .given .0 .1 }) (record { sfits = c .to-millis .ok }) (c .to-millis .ensures) ∙ sym (ap (perUnit 1000000) (x .nanos .given .1))
+    in-unit 1000000 {w = w64} {n = x .nanos .given .0 .0} {r = c .to-millis .result}
+    (record { sfits = c .before .known-told .given .0 .1 }) (record { sfits = c .to-millis .ok }) (c .to-millis .ensures) ∙ sym (ap (perUnit 1000000) (x .nanos .given .1))
 
 returns-2 : tie.Need-returns-2
 returns-2 c = sym (ap (perUnit 1000000) (c .before .nanos2 .given .1))

@@ -6,7 +6,7 @@ use mir.Syntax.{w32, w64}
 use mir.Val.{SFits}
 use borrow.Author.Tests.{ltb-true}
 use Rattle.refusal.specs.Outcome.{accepted, outcome64}
-use Rattle.column.proofs.Ranges.{narrow-fits, narrowed}
+use Rattle.number.proofs.Narrowing.{cast-fits, cast-is}
 use borrow.Author.Needs.{needs}
 use Rattle.column.proofs.units.narrowed.Statement.{statement}
 use Rattle.column.proofs.units.narrowed.Tie as tie
@@ -23,13 +23,13 @@ enum-known-wide : tie.Need-enum-known-wide
 enum-known-wide c = search needs
 
 cast-t5 : tie.Need-cast-t5
-cast-t5 c = narrow-fits (wide c) (value-fits c)
+cast-t5 c = cast-fits (wide c) (value-fits c)
 
 enum-known-wide-2 : tie.Need-enum-known-wide-2
 enum-known-wide-2 c = search needs
 
 returns : tie.Need-returns
-returns c = ap accepted (narrowed (wide c) (value-fits c)) ∙ sym (ap outcome64 (c .before .wide .given .1))
+returns c = ap accepted (cast-is (wide c) (value-fits c)) ∙ sym (ap outcome64 (c .before .wide .given .1))
 
 returns-2 : tie.Need-returns-2
 returns-2 c = sym (ap outcome64 (c .before .wide2 .given .1))

@@ -3,7 +3,7 @@ use borrow.Author.Needs.{needs}
 use Prim.Native.Nat.{_*_}
 use native.Mathlib.Omega.{arith}
 use mir.Facts.{toZ-ofZ}
-use Rattle.component.specs.Read.{amountIs}
+use Rattle.component.specs.Found.{amountIs}
 use Rattle.component.proofs.Amounts.{no-fraction, long-fraction, size-below, size-cast, size-flips, size-minus, size-plus, pointed}
 use Rattle.component.proofs.amount.fraction_at.Statement.{statement}
 use Rattle.component.proofs.amount.fraction_at.Tie as tie
@@ -22,7 +22,7 @@ returns-2 : tie.Need-returns-2
 unfolding amountIs
 returns-2 c =
     let n = c .before .before in
-    long-fraction (n .before .before .pre) (n .number-at .result) (n .number-at .ensures) (c .if2 .taken)
+    long-fraction (n .before .before .pre) (n .number-at .result) (n .number-at .ensures) (omega (arith, c .if2 .taken))
 
 scale-requires : tie.Need-scale-requires
 scale-requires c κs = search needs

@@ -7,7 +7,7 @@ use lib.ListN.{length, drop}
 use borrow.Author.Needs.{needs}
 use Rattle.text.specs.Digits.{run}
 use Rattle.text.proofs.DigitLaws.{run-on, run-off, run-end}
-use Rattle.component.specs.Read.{cap}
+use Rattle.component.specs.Found.{cap}
 use Rattle.component.proofs.Amounts.{numberOn, number-end, number-off, number-more}
 use Rattle.component.proofs.amount.number_at.Statement.{statement}
 use Rattle.component.proofs.amount.number_at.Tie as tie

@@ -4,7 +4,7 @@ use mathlib.Core.Path.{sym, ap, _∙_}
 use lib.ListN.{take, drop}
 use Rattle.text.specs.Digits.{value, run}
 use Rattle.number.specs.Widths.{int64}
-use Rattle.component.specs.Read.{amountIs}
+use Rattle.component.specs.Found.{amountIs}
 use Rattle.component.proofs.Amounts.{whole-fits, whole-over, unfit, no-amount, bare, point-at}
 use Rattle.component.proofs.amount.unsigned_at.Statement.{statement}
 use Rattle.component.proofs.amount.unsigned_at.Tie as tie

@@ -1,9 +1,10 @@
 -- `component::split::unit_at` meets its contract, by the laws of what follows an amount. Assumes nothing.
 use borrow.Author.Needs.{needs}
-use mathlib.Core.Path.{refl, sym, ap, _∙_}
+use mathlib.Core.Path.{refl}
 use Prim.Native.Nat.{_+_}
-use Rattle.component.specs.Read.{unitRead, pieceIs}
-use Rattle.component.proofs.Pieces.{alone, unit-piece, no-unit-here}
+use Rattle.unit.specs.Read.{wordIs}
+use Rattle.component.specs.Read.{pieceIs}
+use Rattle.component.proofs.Pieces.{alone, no-unit-here, unit-ends, unit-goes-on}
 use Rattle.component.proofs.split.unit_at.Statement.{statement}
 use Rattle.component.proofs.split.unit_at.Tie as tie
 
@@ -19,39 +20,45 @@ white-len-requires c κs = search needs
 add-from : tie.Need-add-from
 add-from c = search needs
 
-letters-at-requires : tie.Need-letters-at-requires
-letters-at-requires c κs = search needs
-
-unit-of-key-requires : tie.Need-unit-of-key-requires
-unit-of-key-requires c κs = search needs
-
-enum-known-unit : tie.Need-enum-known-unit
-enum-known-unit c = search needs
-
-end-at-requires : tie.Need-end-at-requires
-end-at-requires c κs = search needs
+word-at-requires : tie.Need-word-at-requires
+word-at-requires c κs = search needs
 
 enum-told : tie.Need-enum-told
 enum-told c = search needs
 
+enum-known-unit : tie.Need-enum-known-unit
+enum-known-unit c = search needs
+
+enum-known-unit-2 : tie.Need-enum-known-unit-2
+enum-known-unit-2 c = search needs
+
 returns-2 : tie.Need-returns-2
+unfolding pieceIs wordIs
 returns-2 c =
-    let k = c .before .before .before .before in
-    let l = k .before in
-    let w = l .before in
+    let k = c .before .before in
+    let w = k .before in
     let i = w .before in
     let x = i .before .before .args in
-    rw (c .end-at .ensures) (unit-piece (x .text .now) (x .at) (x .amount) (x .end) (i .before .before .pre) (i .if1 .left) (w .white-len .result) (x .end + w .white-len .result) (w .white-len .ensures .0) refl (l .letters-at .result) (l .letters-at .ensures) (c .before .before .unit .given .0 .0) (sym (ap unitRead (c .before .before .unit .given .1)) ∙ k .unit-of-key .ensures))
+    no-unit-here (x .text .now) (x .at) (x .amount) (x .end) (i .before .before .pre) (i .if1 .left) (w .white-len .result) (x .end + w .white-len .result) (w .white-len .ensures .0) refl (rw (c .enum-told .given .1) at (k .word-at .ensures))
 
 returns-3 : tie.Need-returns-3
-unfolding pieceIs
+unfolding pieceIs wordIs
 returns-3 c =
-    let k = c .before .before in
-    let l = k .before in
-    let w = l .before in
+    let k = c .before .before .before in
+    let w = k .before in
     let i = w .before in
     let x = i .before .before .args in
-    no-unit-here (x .text .now) (x .at) (x .amount) (x .end) (i .before .before .pre) (i .if1 .left) (w .white-len .result) (x .end + w .white-len .result) (w .white-len .ensures .0) refl (l .letters-at .result) (l .letters-at .ensures) (sym (ap unitRead (c .enum-told .given .1)) ∙ k .unit-of-key .ensures)
+    let u = rw (c .before .unit .given .1) at (k .word-at .ensures) in
+    unit-ends (x .text .now) (x .at) (x .amount) (x .end) (i .before .before .pre) (i .if1 .left) (w .white-len .result) (x .end + w .white-len .result) (w .white-len .ensures .0) refl (u .0) (u .1)
+
+returns-4 : tie.Need-returns-4
+unfolding pieceIs wordIs
+returns-4 c =
+    let k = c .before .before .before in
+    let w = k .before in
+    let i = w .before in
+    let x = i .before .before .args in
+    unit-goes-on (x .text .now) (x .at) (x .amount) (x .end) (i .before .before .pre) (i .if1 .left) (w .white-len .result) (x .end + w .white-len .result) (w .white-len .ensures .0) refl (rw (c .before .unit2 .given .1) at (k .word-at .ensures))
 
 pub unit-at-spec : {M : Type 1} → statement M
 unit-at-spec =
@@ -60,10 +67,10 @@ unit-at-spec =
     returns
     white-len-requires
     add-from
-    letters-at-requires
-    unit-of-key-requires
-    enum-known-unit
-    end-at-requires
+    word-at-requires
     enum-told
+    enum-known-unit
+    enum-known-unit-2
     returns-2
-    returns-3)
+    returns-3
+    returns-4)

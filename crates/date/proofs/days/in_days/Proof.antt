@@ -4,7 +4,7 @@ use mir.Syntax.{w32}
 use mir.Facts.{toZ-ofZ}
 use borrow.Author.Needs.{needs}
 use Rattle.number.specs.Widths.{int32, fit}
-use Rattle.timestamp.proofs.Outcomes.{orRange}
+use Rattle.refusal.proofs.Outcomes.{orRange}
 use Rattle.date.proofs.Outcomes.{in-range}
 use Rattle.date.proofs.days.in_days.Statement.{statement}
 use Rattle.date.proofs.days.in_days.Tie as tie

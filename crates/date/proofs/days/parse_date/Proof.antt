@@ -3,7 +3,7 @@ use mathlib.Core.Path.{_≡_, sym, ap, _∙_}
 use mathlib.Core.Bool.{Bool}
 use lib.ListN.{getD}
 use borrow.Author.Needs.{needs}
-use Rattle.date.specs.Answer.{isSign}
+use Rattle.date.specs.Answer.{isSign, onDay}
 use Rattle.date.proofs.Outcomes.{signed-form, short-form, stamp-form}
 use Rattle.date.proofs.days.parse_date.Statement.{statement}
 use Rattle.date.proofs.days.parse_date.Tie as tie
@@ -19,27 +19,24 @@ extended-day-requires : tie.Need-extended-day-requires
 extended-day-requires c κs = search needs
 
 of-text-requires : tie.Need-of-text-requires
-of-text-requires c κs = search needs
+of-text-requires c κs =
+    let b = c .before .before in
+    ap onDay (c .extended-day .ensures) ∙ signed-form (b .before .before .args .s .now) (first b (c .before .if1 .taken))
 
 returns : tie.Need-returns
-returns c =
-    let d = c .before in
-    let b = d .before .before in
-    let s = b .before .before .args .s .now in
-    c .of-text .ensures ∙ rw (d .extended-day .ensures) (signed-form s (first b (d .before .if1 .taken)))
+returns c = search needs
 
 short-day-requires : tie.Need-short-day-requires
 short-day-requires c κs = search needs
 
 of-text-requires-2 : tie.Need-of-text-requires-2
-of-text-requires-2 c κs = search needs
+of-text-requires-2 c κs =
+    let b = c .before .before .before in
+    ap onDay (c .short-day .ensures) ∙
+    short-form (b .before .before .args .s .now) (first b (c .before .before .if1 .left)) (c .before .if2 .taken)
 
 returns-2 : tie.Need-returns-2
-returns-2 c =
-    let d = c .before in
-    let b = d .before .before .before in
-    let s = b .before .before .args .s .now in
-    c .of-text2 .ensures ∙ rw (d .short-day .ensures) (short-form s (first b (d .before .before .if1 .left)) (d .before .if2 .taken))
+returns-2 c = search needs
 
 stamp-day-requires : tie.Need-stamp-day-requires
 stamp-day-requires c κs = search needs

@@ -35,8 +35,10 @@ returns c = no-compact (values (c .before)) (c .if1 .taken)
 of-fields-requires : tie.Need-of-fields-requires
 of-fields-requires c κs =
     let d = c .before in
-    compact-year (length (d .before .before .before .before .before .args .s .now)) (d .before .before .before .two .result) (d .before .before .two2 .result)
-    (d .before .two3 .result) (d .two4 .result) (c .if1 .left)
+    let l =
+    compact-year (length (d .before .before .before .before .before .args .s .now)) (d .before .before .before .two .result)
+    (d .before .before .two2 .result) (d .before .two3 .result) (d .two4 .result) (c .if1 .left) in
+    search (l, needs)
 
 returns-2 : tie.Need-returns-2
 returns-2 c = c .of-fields .ensures ∙ a-compact (values (c .before .before)) (c .before .if1 .left)

@@ -3,7 +3,7 @@ use mathlib.Core.Path.{_≡_, sym, _∙_}
 use Prim.Native.Nat.{_-_}
 use lib.ListN.{length, drop}
 use borrow.Author.Needs.{needs}
-use Rattle.date.specs.Grammar.{noDigits}
+use Rattle.clock.specs.Grammar.{noDigits}
 use Rattle.date.proofs.Shapes.{digit-here, no-digit-here, nothing-left}
 use Rattle.date.proofs.short.no_digits.Statement.{statement}
 use Rattle.date.proofs.short.no_digits.Tie as tie

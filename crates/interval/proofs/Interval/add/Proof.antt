@@ -2,8 +2,9 @@
 use borrow.Author.Needs.{needs}
 use mathlib.Core.Path.{sym, ap, _∙_}
 use Rattle.component.specs.Grammar.{precision}
+use Rattle.component.specs.Read.{valueOf}
 use Rattle.interval.specs.Contribution.{contribution, countsOf}
-use Rattle.interval.specs.Read.{sumOf}
+use Rattle.interval.specs.Helpers.{sumOf}
 use Rattle.interval.proofs.Adding.{adds, over}
 use Rattle.interval.proofs.Interval.add.Statement.{statement}
 use Rattle.interval.proofs.Interval.add.Tie as tie
@@ -18,21 +19,21 @@ enum-told : tie.Need-enum-told
 enum-told c = search needs
 
 returns : tie.Need-returns
-returns c v E =
+returns c =
     let k = c .before .before in
     let x = k .before .args in
-    over (countsOf (x .self)) (contribution precision (x .unit) v) (sym (ap sumOf (c .enum-told .given .1)) ∙ k .contribution .ensures v E)
+    over (countsOf (x .self)) (contribution precision (x .unit) (valueOf (x .amount))) (sym (ap sumOf (c .enum-told .given .1)) ∙ k .contribution .ensures)
 
 plus-requires : tie.Need-plus-requires
 plus-requires c κs = search needs
 
 returns-2 : tie.Need-returns-2
-returns-2 c v E =
+returns-2 c =
     let m = c .before .before in
     let k = m .before .before in
     let x = k .before .args in
     c .plus .ensures ∙
-    adds (countsOf (x .self)) (contribution precision (x .unit) v) (sym (ap sumOf (m .more .given .1)) ∙ k .contribution .ensures v E)
+    adds (countsOf (x .self)) (contribution precision (x .unit) (valueOf (x .amount))) (sym (ap sumOf (m .more .given .1)) ∙ k .contribution .ensures)
 
 pub add-spec : {M : Type 1} → statement M
 add-spec =

@@ -17,13 +17,12 @@ returns-2 c =
 
 returns-3 : tie.Need-returns-3
 returns-3 c =
-    let n = c .before .before in
+    let n = c .before in
     let d = n .before .before .before .before in
     let x = d .before .before .before .before .args .self in
-    let fm : SFits w32 (x .months .0) = record { sfits = c .struct-told3 .given .0 .1 } in
     let fd : SFits w32 (x .days .0) = record { sfits = d .before .struct-told .given .0 .1 } in
     let fn : SFits w64 (x .nanos .0) = record { sfits = n .before .struct-told2 .given .0 .1 } in
-    months-alone (x .months .0) (x .days .0) (x .nanos .0) fm fd fn (d .if1 .left) (n .if2 .left)
+    months-alone (x .months .0) (x .days .0) (x .nanos .0) fd fn (d .if1 .left) (n .if2 .left)
 
 pub to-year-months-spec : {M : Type 1} → statement M
 to-year-months-spec = tie.close (tie.spec returns returns-2 returns-3)

@@ -1,7 +1,7 @@
 -- `interval::Sum::add` meets its contract. Assumes nothing.
 use borrow.Author.Needs.{needs}
 use mir.Facts.{toZ-ofZ}
-use Rattle.interval.specs.Read.{onAdded}
+use Rattle.interval.specs.Helpers.{onAdded}
 use Rattle.interval.proofs.Sum.add.Statement.{statement}
 use Rattle.interval.proofs.Sum.add.Tie as tie
 
@@ -16,14 +16,14 @@ enum-told c = search needs
 
 returns : tie.Need-returns
 unfolding onAdded
-returns c v I J =
+returns c =
     let k = c .before .before in
     let f = k .before .before .fits in
-    rw (k .self .given .1) (c .add .ensures v (rw (toZ-ofZ (f .integer), toZ-ofZ (f .frac), I, J)))
+    rw (k .self .given .1) (rw (toZ-ofZ (f .integer), toZ-ofZ (f .frac)) at (c .add .ensures))
 
 returns-2 : tie.Need-returns-2
 unfolding onAdded
-returns-2 c v I J = rw (c .enum-told .given .1)
+returns-2 c = rw (c .enum-told .given .1)
 
 pub add-spec : {M : Type 1} → statement M
 add-spec = tie.close (tie.spec enum-known-self add-requires enum-told returns returns-2)

@@ -1,7 +1,5 @@
 -- `interval::components::settled` meets its contract, case by case. Assumes nothing.
 use borrow.Author.Needs.{needs}
-use mir.Syntax.{w32, w64}
-use mir.Facts.{toZ-ofZ}
 use Rattle.interval.specs.Answer.{onTotals}
 use Rattle.interval.proofs.components.settled.Statement.{statement}
 use Rattle.interval.proofs.components.settled.Tie as tie
@@ -18,14 +16,8 @@ enum-told c = search needs
 returns-2 : tie.Need-returns-2
 unfolding onTotals
 returns-2 c =
-    let t = c .before .before .before .before .before .before .before in
-    rw (
-      t .before .before .if1 .left,
-      t .total .given .1,
-      toZ-ofZ {w = w32} (record { sfits = c .before .before .struct-told .given .0 .1 }),
-      toZ-ofZ {w = w32} (record { sfits = c .before .struct-told2 .given .0 .1 }),
-      toZ-ofZ {w = w64} (record { sfits = c .struct-told3 .given .0 .1 }),
-    )
+    let t = c .before in
+    rw (t .before .before .if1 .left, t .total .given .1)
 
 returns-3 : tie.Need-returns-3
 unfolding onTotals

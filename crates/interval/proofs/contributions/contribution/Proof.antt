@@ -78,51 +78,51 @@ nanoseconds-requires c κs = search needs
 
 returns : tie.Need-returns
 unfolding contribution
-returns c v E = rw (c .before .enum-told .given .1) (c .months .ensures v E)
+returns c = rw (c .before .enum-told .given .1) (c .months .ensures)
 
 returns-2 : tie.Need-returns-2
 unfolding contribution
-returns-2 c v E = rw (c .before .enum-told2 .given .1) (c .months2 .ensures v E)
+returns-2 c = rw (c .before .enum-told2 .given .1) (c .months2 .ensures)
 
 returns-3 : tie.Need-returns-3
 unfolding contribution
-returns-3 c v E = rw (c .before .enum-told3 .given .1) (c .months3 .ensures v E)
+returns-3 c = rw (c .before .enum-told3 .given .1) (c .months3 .ensures)
 
 returns-4 : tie.Need-returns-4
 unfolding contribution
-returns-4 c v E = rw (c .before .enum-told4 .given .1) (c .months-and-days .ensures v E)
+returns-4 c = rw (c .before .enum-told4 .given .1) (c .months-and-days .ensures)
 
 returns-5 : tie.Need-returns-5
 unfolding contribution
-returns-5 c v E = rw (c .before .enum-told5 .given .1) (c .days-and-nanos .ensures v E)
+returns-5 c = rw (c .before .enum-told5 .given .1) (c .days-and-nanos .ensures)
 
 returns-6 : tie.Need-returns-6
 unfolding contribution
-returns-6 c v E = rw (c .before .enum-told6 .given .1) (c .days-and-nanos2 .ensures v E)
+returns-6 c = rw (c .before .enum-told6 .given .1) (c .days-and-nanos2 .ensures)
 
 returns-7 : tie.Need-returns-7
 unfolding contribution
-returns-7 c v E = rw (c .before .enum-told7 .given .1) (c .nanos .ensures v E)
+returns-7 c = rw (c .before .enum-told7 .given .1) (c .nanos .ensures)
 
 returns-8 : tie.Need-returns-8
 unfolding contribution
-returns-8 c v E = rw (c .before .enum-told8 .given .1) (c .nanos2 .ensures v E)
+returns-8 c = rw (c .before .enum-told8 .given .1) (c .nanos2 .ensures)
 
 returns-9 : tie.Need-returns-9
 unfolding contribution
-returns-9 c v E = rw (c .before .enum-told9 .given .1) (c .nanos3 .ensures v E)
+returns-9 c = rw (c .before .enum-told9 .given .1) (c .nanos3 .ensures)
 
 returns-10 : tie.Need-returns-10
 unfolding contribution
-returns-10 c v E = rw (c .before .enum-told10 .given .1) (c .nanos4 .ensures v E)
+returns-10 c = rw (c .before .enum-told10 .given .1) (c .nanos4 .ensures)
 
 returns-11 : tie.Need-returns-11
 unfolding contribution
-returns-11 c v E = rw (c .before .enum-told11 .given .1) (c .nanos5 .ensures v E)
+returns-11 c = rw (c .before .enum-told11 .given .1) (c .nanos5 .ensures)
 
 returns-12 : tie.Need-returns-12
 unfolding contribution
-returns-12 c v E = rw (c .before .enum-told12 .given .1) (c .nanoseconds .ensures v E)
+returns-12 c = rw (c .before .enum-told12 .given .1) (c .nanoseconds .ensures)
 
 pub contribution-spec : {M : Type 1} → statement M
 contribution-spec =

@@ -12,17 +12,17 @@ cast-limit c = search needs
 returns : tie.Need-returns
 returns c =
     let s = c .before in
-    far-above (s .fits .whole) (s .fits .part) (s .pre) (c .if1 .taken)
+    far-above (s .fits .whole) (s .fits .part) (s .pre .0) (s .pre .1) (c .if1 .taken)
 
 sub-if2 : tie.Need-sub-if2
 sub-if2 c =
     let s = c .before in
-    limit-flips (s .fits .whole) (s .fits .part) (s .pre)
+    limit-flips (s .fits .whole) (s .fits .part) (s .pre .0) (s .pre .1)
 
 returns-2 : tie.Need-returns-2
 returns-2 c =
     let s = c .before .before in
-    far-below (s .fits .whole) (s .fits .part) (s .pre) (c .if2 .taken)
+    far-below (s .fits .whole) (s .fits .part) (s .pre .0) (s .pre .1) (c .if2 .taken)
 
 cast-add-checked-i64 : tie.Need-cast-add-checked-i64
 cast-add-checked-i64 c = search needs
@@ -30,15 +30,15 @@ cast-add-checked-i64 c = search needs
 mul-add-checked-i64 : tie.Need-mul-add-checked-i64
 mul-add-checked-i64 c =
     let s = c .before .before in
-    near-product (s .fits .whole) (s .fits .part) (s .pre) (c .before .if1 .left) (c .if2 .left)
+    near-product (s .fits .whole) (s .fits .part) (s .pre .0) (s .pre .1) (c .before .if1 .left) (c .if2 .left)
 
 add-checked-i64-requires : tie.Need-add-checked-i64-requires
 add-checked-i64-requires c κs = search needs
 
 returns-3 : tie.Need-returns-3
-returns-3 c neg m j e f =
+returns-3 c =
     let s = c .before .before .before in
-    c .add-checked-i64 .ensures ∙ ap (fit 63) (near-is (s .fits .whole) (s .fits .part) (s .pre) (c .before .before .if1 .left) (c .before .if2 .left))
+    c .add-checked-i64 .ensures ∙ ap (fit 63) (near-is (s .fits .whole) (s .fits .part) (s .pre .0) (s .pre .1) (c .before .before .if1 .left) (c .before .if2 .left))
 
 pub count64-spec : {M : Type 1} → statement M
 count64-spec =

@@ -1,8 +1,6 @@
 -- `interval::contributions::counts` meets its contract, case by case. Assumes nothing.
 use borrow.Author.Needs.{needs}
-use mir.Syntax.{w32, w64}
-use mir.Facts.{toZ-ofZ}
-use Rattle.interval.specs.Read.{together}
+use Rattle.interval.specs.Helpers.{together}
 use Rattle.interval.proofs.contributions.counts.Statement.{statement}
 use Rattle.interval.proofs.contributions.counts.Tie as tie
 
@@ -47,9 +45,6 @@ returns-4 c =
       m .before .months .given .1,
       d .before .days .given .1,
       c .before .nanos .given .1,
-      toZ-ofZ {w = w32} (record { sfits = m .known-told .given .0 .1 }),
-      toZ-ofZ {w = w32} (record { sfits = d .known-told2 .given .0 .1 }),
-      toZ-ofZ {w = w64} (record { sfits = c .known-told3 .given .0 .1 }),
     )
 
 pub counts-spec : {M : Type 1} → statement M

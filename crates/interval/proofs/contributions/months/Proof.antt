@@ -6,6 +6,7 @@ use mir.Syntax.{w64}
 use mir.Val.{SFits}
 use Rattle.number.specs.Widths.{fit}
 use Rattle.component.specs.Grammar.{precision}
+use Rattle.component.specs.Read.{valueOf}
 use Rattle.interval.specs.Contribution.{times}
 use Rattle.interval.proofs.Adding.{part-most, cut-times, three}
 use Rattle.interval.proofs.contributions.months.Statement.{statement}
@@ -19,20 +20,25 @@ count32-requires c κs =
     let s = c .before .before .before in
     let x = s .args in
     let p = s .pre in
-    (p .1, p .2, part-most (x .amount .frac) (p .0) (x .a) (x .c) (p .3) (c .cut .ensures) (p .4) (p .6) (p .2))
+    (p .1, p .2, part-most (x .amount .frac) (p .0 .small) (x .a) (x .c) (p .3 .factor-fits) (c .cut .ensures) (p .3 .divides) (p .3 .same) (p .2))
+
+of-requires : tie.Need-of-requires
+of-requires c κs = search needs
 
 counts-requires : tie.Need-counts-requires
 counts-requires c κs = search needs
 
 returns : tie.Need-returns
-returns c v E =
-    let t = c .before .before in
+returns c =
+    let t = c .before .before .before in
     let s = t .before .before .before in
     let x = s .args in
     let p = s .pre in
     let F : SFits w64 (x .amount .integer) = record { sfits = t .before .before .struct-told .given .0 .1 } in
     c .counts .ensures ∙
-    three (times precision (x .k) v) (pos 0) (pos 0) (c .before .count32 .ensures ∙ ap (fit 31) (cut-times (x .amount) v E F (p .0) (x .k) (x .a) (x .c) (p .3) (p .4) (p .6) (t .cut .ensures))) refl refl
+    three (times precision (x .k) (valueOf (x .amount))) (pos 0) (pos 0)
+    (c .before .of .ensures ∙ c .before .before .count32 .ensures ∙ ap (fit 31) (cut-times (x .amount) F (p .0 .small) (x .k) (x .a) (x .c) (p .3 .factor-fits) (p .3 .divides) (p .3 .same) (t .cut .ensures) (p .0 .one-sign)))
+    refl refl
 
 pub months-spec : {M : Type 1} → statement M
-months-spec = tie.close (tie.spec cut-requires count32-requires counts-requires returns)
+months-spec = tie.close (tie.spec cut-requires count32-requires of-requires counts-requires returns)

@@ -1,8 +1,6 @@
 -- `interval::narrow::day_time` meets its contract, case by case. Assumes nothing.
 use borrow.Author.Needs.{needs}
-use mir.Syntax.{w32}
-use mir.Facts.{toZ-ofZ}
-use Rattle.interval.specs.Read.{dayTimeIf}
+use Rattle.interval.specs.Helpers.{dayTimeIf}
 use Rattle.interval.proofs.narrow.day_time.Statement.{statement}
 use Rattle.interval.proofs.narrow.day_time.Tie as tie
 
@@ -30,12 +28,7 @@ returns-3 : tie.Need-returns-3
 unfolding dayTimeIf
 returns-3 c =
     let d = c .before .before .before in
-    rw (
-      d .before .days .given .1,
-      c .before .millis .given .1,
-      toZ-ofZ {w = w32} (record { sfits = d .known-told .given .0 .1 }),
-      toZ-ofZ {w = w32} (record { sfits = c .known-told2 .given .0 .1 }),
-    )
+    rw (d .before .days .given .1, c .before .millis .given .1)
 
 pub day-time-spec : {M : Type 1} → statement M
 day-time-spec =

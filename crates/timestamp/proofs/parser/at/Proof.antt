@@ -4,8 +4,8 @@ use mathlib.Core.List.{List}
 use Prim.Native.Nat.{ℕ}
 use lib.ListN.{drop}
 use borrow.Author.Needs.{needs}
-use Rattle.timestamp.specs.declared.Time.{Time}
-use Rattle.timestamp.specs.Clock.{timeIs}
+use Rattle.clock.specs.declared.Time.{Time}
+use Rattle.clock.specs.Clock.{timeIs}
 use Rattle.timestamp.specs.Answer.{timedAt}
 use Rattle.timestamp.proofs.Fractions.{withTail, timed-at}
 use Rattle.timestamp.proofs.parser.at.Statement.{statement}

@@ -4,8 +4,10 @@ use mir.Syntax.{w64}
 use mir.Facts.{toZ-ofZ}
 use borrow.Author.Needs.{needs}
 use Rattle.number.specs.Widths.{int64}
-use Rattle.timestamp.specs.Answer.{instant, momentOf}
-use Rattle.timestamp.proofs.Outcomes.{orRange, in-range}
+use Rattle.refusal.proofs.Outcomes.{orRange}
+use Rattle.timestamp.specs.Answer.{momentOf}
+use Rattle.timestamp.specs.Meaning.{instant}
+use Rattle.timestamp.proofs.Outcomes.{in-range}
 use Rattle.timestamp.proofs.stamp.in_nanos.Statement.{statement}
 use Rattle.timestamp.proofs.stamp.in_nanos.Tie as tie
 

@@ -1,7 +1,5 @@
 -- `column::times::Time64MicrosecondType::parse` meets its contract: what is found, in microseconds. Assumes nothing.
-use mathlib.Core.Path.{sym, ap, _∙_}
-use Rattle.column.specs.Found.{foundIs}
-use Rattle.column.proofs.Outcomes.{back}
+use mathlib.Core.Path.{_∙_}
 use borrow.Author.Needs.{needs}
 use Rattle.column.proofs.times.Time64MicrosecondType.parse.Statement.{statement}
 use Rattle.column.proofs.times.Time64MicrosecondType.parse.Tie as tie
@@ -9,26 +7,11 @@ use Rattle.column.proofs.times.Time64MicrosecondType.parse.Tie as tie
 found-i64-requires : tie.Need-found-i64-requires
 found-i64-requires c κs = search needs
 
-enum-known-nanos : tie.Need-enum-known-nanos
-enum-known-nanos c = search needs
-
-micros-requires : tie.Need-micros-requires
-micros-requires c κs = search needs
-
-enum-known-z : tie.Need-enum-known-z
-enum-known-z c = search needs
+in-unit-requires : tie.Need-in-unit-requires
+in-unit-requires c κs = search needs
 
 returns : tie.Need-returns
-returns c =
-    let x = c .before .before in
-    c .micros .ensures ∙ sym (ap (foundIs 1000) (x .nanos .given .1)) ∙ x .before .before .found-i64 .ensures 1000
-
-returns-2 : tie.Need-returns-2
-returns-2 c =
-    let x = c .before in
-    back {z = x .z .given .0 .0} (record { sfits = c .known-told2 .given .0 .1 }) (sym (ap (foundIs 1000) (x .z .given .1)) ∙ x .before .before .found-i64 .ensures 1000)
+returns c = c .in-unit .ensures ∙ c .before .found-i64 .ensures 1000
 
 pub parse-spec : {M : Type 1} → statement M
-parse-spec =
-    tie.close
-    (tie.spec found-i64-requires enum-known-nanos micros-requires enum-known-z returns returns-2)
+parse-spec = tie.close (tie.spec found-i64-requires in-unit-requires returns)

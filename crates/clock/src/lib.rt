@@ -1,0 +1,68 @@
+// Times of day of the clock: their fields, and the digits of a fraction.
+ghost use mathlib.Core.Path.{_≡_};
+ghost use mathlib.Core.Bool.{cond, _&&_};
+ghost use mathlib.Core.Option.{none, some};
+ghost use Prim.Native.Nat.{_+_, _*_, _<_};
+ghost use lib.Dec.{ltb};
+ghost use lib.ListN.{take};
+ghost use Rattle.text.specs.Digits.{run};
+ghost use Rattle.clock.specs.Clock.{inRange, nanosOf, timeIs};
+
+// A time of day: seconds since midnight, and nanoseconds. Second 60 is second 59 with 1,000,000,000 added to the nanoseconds.
+pub struct NaiveTime {
+    pub secs: u32,
+    pub frac: u32,
+}
+
+// A time of day, or none.
+pub enum Time {
+    At(NaiveTime),
+    None,
+}
+
+// The digits that a text begins with, at most n of them, as nanoseconds: nine count.
+pub fn parse_nanos(digits: &[u8], n: usize) -> u32
+    ensures { λ r. ⌜ (r ≡ nanosOf (take n (take (run (now (digits .entry))) (now (digits .entry))))) × (r < 1000000000) ⌝ }
+{
+    let mut nanos: u32 = 0;
+    let mut unit: u32 = 100_000_000;
+    let mut i = 0;
+    while i < n {
+        // Behind nine digits.
+        if unit == 0 {
+            return nanos;
+        }
+        if digits.len() <= i {
+            return nanos;
+        }
+        let d = text::digits::digit(digits[i]);
+        if 10 <= d {
+            return nanos;
+        }
+        nanos += d as u32 * unit;
+        unit /= 10;
+        i += 1;
+    }
+    nanos
+}
+
+// chrono's `NaiveTime::from_hms_nano_opt`, with second 60 held as second 59 and 1,000,000,000 more nanoseconds.
+pub fn from_hms_nano(hour: u8, min: u8, sec: u8, nano: u32) -> Time
+    ensures { λ r. ⌜ timeIs r ≡ cond (inRange hour min sec && ltb nano 1000000000) (some (((hour * 60 + min) * 60 + sec) * 1000000000 + nano)) none ⌝ }
+{
+    let fits = (hour <= 23) & ((min <= 59) & (sec <= 60)) & (nano < 1_000_000_000);
+    if !fits {
+        return Time::None;
+    }
+    let minutes = hour as u32 * 60 + min as u32;
+    if sec == 60 {
+        return Time::At(NaiveTime {
+            secs: minutes * 60 + 59,
+            frac: nano + 1_000_000_000,
+        });
+    }
+    Time::At(NaiveTime {
+        secs: minutes * 60 + sec as u32,
+        frac: nano,
+    })
+}

@@ -1,0 +1,53 @@
+-- The delivered calls and the answer that the contract of each cites, so that one statement speaks of all. Assumes nothing.
+use mathlib.Core.List.{List}
+use Prim.Native.Nat.{ℕ}
+use lib.IntN.{ℤ}
+use Rattle.column.specs.Columns.{Column, column}
+use Rattle.component.specs.Grammar.{precision}
+use Rattle.interval.specs.Answer.{dayTime, plainMonthDayNano, yearMonth}
+use Rattle.interval.specs.Contribution.{Counts}
+use Rattle.interval.specs.Meaning.{DayTime}
+use Rattle.refusal.specs.Outcome.{Outcome, accepted, numberOf}
+use Rattle.refusal.specs.declared.Refusal.{Refusal}
+use Rattle.time.specs.Answer.{timeNanos}
+use Rattle.timestamp.specs.Answer.{stampNanos}
+use Rattle.site.specs.Site.{siteNanos}
+use Rattle.unit.specs.Units.{unitNumbered}
+use Rattle.cullpethi.specs.Cells.{inUnit}
+
+-- the readers of document 01, "Delivered and not delivered"; the last has the number of a default unit
+pub data Call : Type 0 where
+  string-to-timestamp-nanos string-to-time-nanoseconds site-stamp : Call
+  parse : Column → Call
+  interval-year-month interval-day-time interval-month-day-nano : Call
+  interval-month-day-nano-config : ℕ → Call
+
+-- what the cells of a call hold
+abbrev pub CellsOf : Call → Type 0
+CellsOf string-to-timestamp-nanos = ℤ
+CellsOf string-to-time-nanoseconds = ℤ
+CellsOf site-stamp = ℤ
+CellsOf (parse c) = ℤ
+CellsOf interval-year-month = ℤ
+CellsOf interval-day-time = DayTime
+CellsOf interval-month-day-nano = Counts
+CellsOf (interval-month-day-nano-config unit) = Counts
+
+-- what the contract of a call says of a text
+abbrev pub answer : (c : Call) → List ℕ → Outcome (CellsOf c)
+answer string-to-timestamp-nanos t = stampNanos t
+answer string-to-time-nanoseconds t = timeNanos t
+answer site-stamp t = siteNanos t
+answer (parse c) t = column c t
+answer interval-year-month t = yearMonth precision t
+answer interval-day-time t = dayTime precision t
+answer interval-month-day-nano t = plainMonthDayNano precision t
+answer (interval-month-day-nano-config unit) t = inUnit (unitNumbered unit) t
+
+-- the text is accepted
+pub data Accepts {A : Type 0} : Outcome A → Type 0 where
+  accepts : (v : A) → Accepts (accepted v)
+
+-- a number of document 01's list, "Refusals, in checking order"
+pub data OnList : ℕ → Type 0 where
+  on-list : (why : Refusal) → OnList (numberOf why)

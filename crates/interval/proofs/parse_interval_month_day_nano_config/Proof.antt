@@ -1,0 +1,14 @@
+-- `interval::parse_interval_month_day_nano_config` meets its contract: what is computed is what the text means. Assumes nothing.
+use borrow.Author.Needs.{needs}
+use Rattle.interval.proofs.Demand3.{meant}
+use Rattle.interval.proofs.parse_interval_month_day_nano_config.Statement.{statement}
+use Rattle.interval.proofs.parse_interval_month_day_nano_config.Tie as tie
+
+parse-requires : tie.Need-parse-requires
+parse-requires c κs = search needs
+
+returns : tie.Need-returns
+returns c = meant (c .parse .ensures)
+
+pub parse-interval-month-day-nano-config-spec : {M : Type 1} → statement M
+parse-interval-month-day-nano-config-spec = tie.close (tie.spec parse-requires returns)

@@ -1,0 +1,4 @@
+-- Laws that belong to no one function.
+pub mod SiteTests
+pub mod SiteAgrees
+pub mod Refusals
