@@ -77,5 +77,6 @@ fn day_of_year(year: i32, text: &[u8]) {
         show::bytes(b"no day");
         return;
     };
-    show::day(calendar::days_from_ymd(year, month, day_of_month));
+    let starts = calendar::year_starts();
+    show::day(calendar::days_from_ymd(&starts, year, month, day_of_month));
 }

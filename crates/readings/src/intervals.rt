@@ -4,6 +4,7 @@ use interval::DayTimeRead;
 use interval::IntervalParseConfig;
 use interval::IntervalRead;
 use lines::names::default_unit;
+use unit::IntervalUnit;
 use unit::UnitRead;
 
 pub fn of(name: &[u8], text: &[u8]) -> bool {
