@@ -17,8 +17,8 @@ use Rattle.component.specs.Grammar.{Component, precision}
 use Rattle.unit.specs.declared.IntervalUnit.{IntervalUnit}
 use Rattle.unit.specs.declared.IntervalUnit.the-variants.{Year, Month, Day}
 use Rattle.date.specs.Answer.{isSign, onDay, signedDay, shortDay, plainDay, dayNamed, inDays, dateDays}
-use Rattle.interval.specs.Answer.{totals, twice, onTotals, onDivision, monthDayNano, toYearMonths, toDayTime, orNarrowed, narrowed, yearMonth, dayTime, plainMonthDayNano}
-use Rattle.interval.specs.Contribution.{Counts, zeros}
+use Rattle.rule.specs.Answer.{totals, twice, onTotals, onDivision, monthDayNano, toYearMonths, toDayTime, orNarrowed, narrowed, yearMonth, dayTime, plainMonthDayNano}
+use Rattle.rule.specs.Contribution.{Counts, zeros}
 use Rattle.number.specs.Decimal.{integer}
 use Rattle.number.specs.Widths.{inSigned, floor}
 use Rattle.refusal.specs.Outcome.{Outcome, accepted, refused, because, andThen, inUtf8}

@@ -6,8 +6,8 @@ use Prim.Native.Nat.{ℕ}
 use Rattle.refusal.specs.Outcome.{Outcome}
 use Rattle.component.specs.Grammar.{precision}
 use Rattle.unit.specs.declared.IntervalUnit.{IntervalUnit}
-use Rattle.interval.specs.Contribution.{Counts}
-use Rattle.interval.specs.Answer.{monthDayNano}
+use Rattle.rule.specs.Contribution.{Counts}
+use Rattle.rule.specs.Answer.{monthDayNano}
 use Rattle.cullpethi.specs.Cells.{inUnit}
 
 pub in-unit : {o : Outcome Counts} {u v : IntervalUnit} {m : Option IntervalUnit} (t : List ℕ)

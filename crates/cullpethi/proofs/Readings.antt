@@ -22,8 +22,8 @@ use Rattle.unit.specs.Units.{rank, spellings, same, oneOf, find, low, kelvin, l
 use Rattle.component.specs.Grammar.{precision, wholeFits, scaled}
 use Rattle.component.specs.Division.{negative, signLen, pointLen, digitsLen, amountLen, endStep, unitStep, restStep, amountStep, step, before, then, divideBy, divide}
 use Rattle.component.specs.Amount.{fracOf, unsignedOf, amountOf, spelled, unitFor}
-use Rattle.interval.specs.Contribution.{times, wholeTimes, fracTimes, contribution, fits, plus}
-use Rattle.interval.specs.Answer.{gives, totals, has, twice, onTotals, onDivision, monthDayNano, plainMonthDayNano}
+use Rattle.rule.specs.Contribution.{times, wholeTimes, fracTimes, contribution, fits, plus}
+use Rattle.rule.specs.Answer.{gives, totals, has, twice, onTotals, onDivision, monthDayNano, plainMonthDayNano}
 
 -- one count, and three
 abbrev one : Outcome ℤ → Outcome (List ℤ)

@@ -3,8 +3,8 @@ use mathlib.Core.Path.{_≡_, refl}
 use Prim.Native.Nat.{ℕ}
 use lib.IntN.{ℤ}
 use Rattle.refusal.specs.Outcome.{Outcome, accepted, refused}
-use Rattle.interval.specs.Meaning.{dayTimeOf}
-use Rattle.interval.specs.Contribution.{counts}
+use Rattle.rule.specs.Meaning.{dayTimeOf}
+use Rattle.rule.specs.Contribution.{counts}
 use Rattle.cullpethi.specs.Cells.{Told}
 
 module _ {A : Type 0} where

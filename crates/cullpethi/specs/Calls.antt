@@ -4,9 +4,9 @@ use Prim.Native.Nat.{ℕ}
 use lib.IntN.{ℤ}
 use Rattle.column.specs.Columns.{Column, column}
 use Rattle.component.specs.Grammar.{precision}
-use Rattle.interval.specs.Answer.{dayTime, plainMonthDayNano, yearMonth}
-use Rattle.interval.specs.Contribution.{Counts}
-use Rattle.interval.specs.Meaning.{DayTime}
+use Rattle.rule.specs.Answer.{dayTime, plainMonthDayNano, yearMonth}
+use Rattle.rule.specs.Contribution.{Counts}
+use Rattle.rule.specs.Meaning.{DayTime}
 use Rattle.refusal.specs.Outcome.{Outcome, accepted, numberOf}
 use Rattle.refusal.specs.declared.Refusal.{Refusal}
 use Rattle.time.specs.Answer.{timeNanos}

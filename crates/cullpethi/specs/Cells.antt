@@ -7,8 +7,8 @@ use Prim.Native.Nat.{ℕ}
 use Rattle.refusal.specs.Outcome.{Outcome, accepted, refused}
 use Rattle.component.specs.Grammar.{precision}
 use Rattle.unit.specs.declared.IntervalUnit.{IntervalUnit}
-use Rattle.interval.specs.Contribution.{Counts}
-use Rattle.interval.specs.Answer.{monthDayNano}
+use Rattle.rule.specs.Contribution.{Counts}
+use Rattle.rule.specs.Answer.{monthDayNano}
 
 -- accepted: status 0, and the cells hold the value; refused: the refusal's number, and the cells are as they were
 abbrev pub Told : {A : Type 0} → Outcome A → ℕ → A → A → Type 0

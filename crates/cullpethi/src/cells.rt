@@ -1,12 +1,13 @@
 // An answer as a status and cells: the one place that writes what a caller lent.
 use interval::DayTimeRead;
-use interval::IntervalRead;
 use refusal::Read32;
 use refusal::Read64;
+use total::IntervalRead;
 ghost use Rattle.refusal.specs.Outcome.{outcome32, outcome64};
-ghost use Rattle.interval.specs.Meaning.{dayTimeOf};
-ghost use Rattle.interval.specs.Contribution.{counts};
-ghost use Rattle.interval.specs.Read.{dayTimeOutcome, intervalOutcome};
+ghost use Rattle.rule.specs.Meaning.{dayTimeOf};
+ghost use Rattle.rule.specs.Contribution.{counts};
+ghost use Rattle.interval.specs.Read.{dayTimeOutcome};
+ghost use Rattle.total.specs.Read.{intervalOutcome};
 ghost use Rattle.cullpethi.specs.Cells.{Told};
 
 pub fn put64(r: Read64, out: &mut i64) -> u8

@@ -12,8 +12,6 @@ use column::times::Time32MillisecondType;
 use column::times::Time32SecondType;
 use column::times::Time64MicrosecondType;
 use column::times::Time64NanosecondType;
-use interval::IntervalParseConfig;
-use interval::IntervalRead;
 use interval::parse_interval_day_time;
 use interval::parse_interval_month_day_nano;
 use interval::parse_interval_month_day_nano_config;
@@ -23,6 +21,8 @@ use refusal::Read64;
 use site::site_stamp;
 use time::string_to_time_nanoseconds;
 use timestamp::stamp::string_to_timestamp_nanos;
+use total::IntervalParseConfig;
+use total::IntervalRead;
 use unit::IntervalUnit;
 
 pub fn of(reader: Reader, text: &[u8], n: usize, out: &mut [u8]) -> Shown {

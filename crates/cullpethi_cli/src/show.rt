@@ -4,7 +4,6 @@ use crate::READ;
 use crate::REFUSED;
 use crate::answer;
 use interval::DayTimeRead;
-use interval::IntervalRead;
 use lines::output::put;
 use lines::output::put_number;
 use lines::output::put_signed;
@@ -12,6 +11,7 @@ use lines::output::put_signed32;
 use refusal::Read32;
 use refusal::Read64;
 use refusal::Refusal;
+use total::IntervalRead;
 
 // How many bytes there are, and the status.
 pub struct Shown {

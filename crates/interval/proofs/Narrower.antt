@@ -17,11 +17,11 @@ use Rattle.number.specs.Widths.{inSigned, fit}
 use Rattle.number.proofs.Zed.{abs-neg}
 use Rattle.number.proofs.Ranges.{rd}
 use Rattle.number.proofs.Quotients.{quot-fits}
+use Rattle.number.proofs.Sizes.{small-fits}
 use Rattle.refusal.specs.Outcome.{Outcome, accepted, refused}
-use Rattle.interval.specs.Contribution.{Counts, counts}
-use Rattle.interval.specs.Answer.{toYearMonths, dayTimeFits, toDayTime, orNarrowed, narrowed}
+use Rattle.rule.specs.Contribution.{Counts, counts}
+use Rattle.rule.specs.Answer.{toYearMonths, dayTimeFits, toDayTime, orNarrowed, narrowed}
 use Rattle.interval.specs.Helpers.{inDays, inMillis, dayTimeIf}
-use Rattle.interval.proofs.Adding.{small-fits}
 
 -- ---- narrowed by f: a value, none, or a refusal that stands
 
@@ -97,7 +97,7 @@ rem-size (negsuc n) k = abs-neg (suc n % k)
 
 module _ {n : ℤ} (f : SFits w64 n) where
   rest-small : SFits w64 (remZ n (pos 1_000_000))
-  rest-small = small-fits (remZ n (pos 1_000_000)) (omega (arith, rem-size n 1_000_000))
+  rest-small = small-fits w64 (remZ n (pos 1_000_000)) (omega (arith, rem-size n 1_000_000))
 
   rest : natAbs n % 1_000_000 ≡ natAbs (remZ n (pos 1_000_000))
   rest = sym (rem-size n 1_000_000)

@@ -1,8 +1,4 @@
--- What the contracts of `interval` cite. To be believed: what a component contributes, which answer a text has (Meaning, the relation; Answer,
--- which computes it and is proved equal), and what the readers' answers say.
-pub mod Contribution
-pub mod Meaning
-pub mod Answer
+-- What the contracts of `interval` cite. To be believed: what the readers' answers say (what they mean is in `rule`).
 pub mod Read
 -- What the functions behind the readers find; nothing above rests on it.
 pub mod Helpers

@@ -1,68 +1,23 @@
 // Intervals: amounts with their units, in the text form of PostgreSQL's interval input.
+use count::Days;
+use count::MaybeMonths;
+use count::Millis;
 use refusal::Read32;
 use refusal::Refusal;
+use total::Interval;
+use total::IntervalParseConfig;
+use total::IntervalRead;
 use unit::IntervalUnit;
 ghost use mathlib.Core.Path.{_≡_};
 ghost use Rattle.refusal.specs.Outcome.{outcome32};
 ghost use Rattle.component.specs.Grammar.{precision};
 ghost use Rattle.unit.specs.declared.IntervalUnit.the-variants.{Year, Month, Day};
-ghost use Rattle.interval.specs.Answer.{monthDayNano, plainMonthDayNano, yearMonth, dayTime};
-ghost use Rattle.interval.specs.Meaning.{Means, Narrows, YearMonths, DayTimes};
-ghost use Rattle.interval.specs.Read.{intervalOutcome, dayTimeOutcome};
+ghost use Rattle.rule.specs.Answer.{monthDayNano, plainMonthDayNano, yearMonth, dayTime};
+ghost use Rattle.rule.specs.Meaning.{Means, Narrows, YearMonths, DayTimes};
+ghost use Rattle.total.specs.Read.{intervalOutcome};
+ghost use Rattle.interval.specs.Read.{dayTimeOutcome};
 
-mod components;
-mod contributions;
-mod counts;
 mod narrow;
-
-// A count of months.
-pub struct Months(pub i32);
-
-// A count of days.
-pub struct Days(pub i32);
-
-// A count of nanoseconds.
-pub struct Nanos(pub i64);
-
-// A count of milliseconds.
-pub struct Millis(pub i32);
-
-// Months, where they fit; none is a number that does not.
-pub enum MaybeMonths {
-    Some(Months),
-    None,
-}
-
-// Days, where they fit.
-pub enum MaybeDays {
-    Some(Days),
-    None,
-}
-
-// Nanoseconds, where they fit.
-pub enum MaybeNanos {
-    Some(Nanos),
-    None,
-}
-
-// Milliseconds, where they fit.
-pub enum MaybeMillis {
-    Some(Millis),
-    None,
-}
-
-// The three counts of an interval, which never pass for one another.
-pub struct Interval {
-    pub months: Months,
-    pub days: Days,
-    pub nanos: Nanos,
-}
-
-// Counts, where they fit.
-pub enum Sum {
-    Fits(Interval),
-    Over,
-}
 
 // Days and milliseconds.
 pub struct IntervalDayTime {
@@ -76,29 +31,10 @@ pub enum MaybeDayTime {
     None,
 }
 
-// A reader's answer of months, days and nanoseconds.
-pub enum IntervalRead {
-    Value(Interval),
-    Refused(Refusal),
-}
-
 // A reader's answer of days and milliseconds.
 pub enum DayTimeRead {
     Value(IntervalDayTime),
     Refused(Refusal),
-}
-
-// The unit of a last component that has none.
-pub struct IntervalParseConfig {
-    pub default_unit: IntervalUnit,
-}
-
-impl IntervalParseConfig {
-    pub fn new(default_unit: IntervalUnit) -> Self
-        ensures { λ r. ⌜ r .«default_unit» ≡ «default_unit» ⌝ }
-    {
-        Self { default_unit }
-    }
 }
 
 // Months alone; a unit that is left out is the year.
@@ -108,7 +44,7 @@ pub fn parse_interval_year_month(value: &[u8]) -> Read32
 {
     let config = IntervalParseConfig::new(IntervalUnit::Year);
     match Interval::parse(value, config) {
-        IntervalRead::Value(interval) => match interval.to_year_months() {
+        IntervalRead::Value(interval) => match narrow::to_year_months(interval) {
             MaybeMonths::Some(months) => Read32::Value(months.0),
             MaybeMonths::None => Read32::Refused(Refusal::Narrowed),
         },
@@ -123,7 +59,7 @@ pub fn parse_interval_day_time(value: &[u8]) -> DayTimeRead
 {
     let config = IntervalParseConfig::new(IntervalUnit::Day);
     match Interval::parse(value, config) {
-        IntervalRead::Value(interval) => match interval.to_day_time() {
+        IntervalRead::Value(interval) => match narrow::to_day_time(interval) {
             MaybeDayTime::Some(both) => DayTimeRead::Value(both),
             MaybeDayTime::None => DayTimeRead::Refused(Refusal::Narrowed),
         },

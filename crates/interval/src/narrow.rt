@@ -1,19 +1,20 @@
-// The narrowed forms of an interval.
-use crate::Days;
-use crate::Interval;
+// The narrowed forms of an interval: Rust's `Interval::to_year_months` and `to_day_time`.
 use crate::IntervalDayTime;
 use crate::MaybeDayTime;
-use crate::MaybeDays;
-use crate::MaybeMillis;
-use crate::MaybeMonths;
-use crate::Months;
-use crate::Nanos;
+use count::Days;
+use count::MaybeDays;
+use count::MaybeMillis;
+use count::MaybeMonths;
+use count::Months;
+use count::Nanos;
 use number::Int32;
 use number::checked;
+use total::Interval;
 ghost use mathlib.Core.Path.{_≡_};
-ghost use Rattle.interval.specs.Contribution.{countsOf};
-ghost use Rattle.interval.specs.Answer.{toYearMonths, toDayTime};
-ghost use Rattle.interval.specs.Helpers.{maybeMonths, maybeDays, maybeMillis, maybeDayTime, inDays, inMillis, dayTimeIf};
+ghost use Rattle.count.specs.Read.{maybeMonths, maybeDays, maybeMillis};
+ghost use Rattle.rule.specs.Answer.{toYearMonths, toDayTime};
+ghost use Rattle.total.specs.Read.{countsOf};
+ghost use Rattle.interval.specs.Helpers.{maybeDayTime, inDays, inMillis, dayTimeIf};
 
 // Months times 30 plus days, each step in 32 bits.
 pub fn all_days(months: Months, days: Days) -> MaybeDays
@@ -49,26 +50,27 @@ pub fn day_time(days: MaybeDays, millis: MaybeMillis) -> MaybeDayTime
     MaybeDayTime::Some(IntervalDayTime { days, millis })
 }
 
-impl Interval {
-    // The months, where there are no days and no nanoseconds.
-    pub(crate) fn to_year_months(self) -> MaybeMonths
-        ensures { λ r. ⌜ maybeMonths r ≡ toYearMonths (countsOf self) ⌝ }
-    {
-        let days = self.days;
-        if days.0 != 0 {
-            return MaybeMonths::None;
-        }
-        let nanos = self.nanos;
-        if nanos.0 != 0 {
-            return MaybeMonths::None;
-        }
-        let months = self.months;
-        MaybeMonths::Some(months)
+// The months, where there are no days and no nanoseconds.
+pub fn to_year_months(interval: Interval) -> MaybeMonths
+    ensures { λ r. ⌜ maybeMonths r ≡ toYearMonths (countsOf interval) ⌝ }
+{
+    let days = interval.days;
+    if days.0 != 0 {
+        return MaybeMonths::None;
     }
+    let nanos = interval.nanos;
+    if nanos.0 != 0 {
+        return MaybeMonths::None;
+    }
+    let months = interval.months;
+    MaybeMonths::Some(months)
+}
 
-    pub(crate) fn to_day_time(self) -> MaybeDayTime
-        ensures { λ r. ⌜ maybeDayTime r ≡ toDayTime (countsOf self) ⌝ }
-    {
-        day_time(all_days(self.months, self.days), all_millis(self.nanos))
-    }
+pub fn to_day_time(interval: Interval) -> MaybeDayTime
+    ensures { λ r. ⌜ maybeDayTime r ≡ toDayTime (countsOf interval) ⌝ }
+{
+    day_time(
+        all_days(interval.months, interval.days),
+        all_millis(interval.nanos),
+    )
 }

@@ -14,8 +14,12 @@ use mir.ValLaws.{pow-bits}
 use mir.Facts.{toZ-ofZ, toZ-pos}
 use borrow.Author.Tests.{le-ltb}
 use Rattle.number.specs.Widths.{fit, signed}
-use Rattle.number.proofs.Zed.{P-neg, N-neg, sub-ℤ, le-yes, le-no, of-fits, fits-of, eq-of, nonneg-of, abs-up, abs-down}
+use Rattle.number.proofs.Zed.{size-pn, P-neg, N-neg, sub-ℤ, le-yes, le-no, of-fits, fits-of, eq-of, nonneg-of, abs-up, abs-down}
 use Rattle.number.proofs.Ranges.{rd, fit-yes}
+
+-- a number whose size is below the limit fits
+pub small-fits : (w : Width) (z : ℤ) → natAbs z < 2 ^ hbits w → SFits w z
+small-fits w z h = fits-of w z (omega (arith, size-pn z))
 
 module _ {w : Width} {a : ℤ} (fa : SFits w a) where
   -- the cast to the unsigned type, of an a that is not negative

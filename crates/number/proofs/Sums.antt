@@ -55,3 +55,7 @@ module _ {w : Width} {a b : ℤ} (fa : SFits w a) (fb : SFits w b) where
 
   pub sum-fits : SFits w (rd w a +ℤ rd w b) → some (rd w (rd w a +ℤ rd w b)) ≡ fit (hbits w) (a +ℤ b)
   sum-fits = rw (toZ-ofZ fa, toZ-ofZ fb) fit-yes
+
+-- a sum of two numbers of a width, which are read back
+pub read-sum : (w : Width) {a b : ℤ} → SFits w a → SFits w b → fit (hbits w) (rd w a +ℤ rd w b) ≡ fit (hbits w) (a +ℤ b)
+read-sum w f g = rw (toZ-ofZ f, toZ-ofZ g)

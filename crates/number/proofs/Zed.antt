@@ -124,6 +124,15 @@ pub abs-neg : (n : ℕ) → natAbs (negℤ (pos n)) ≡ n
 abs-neg zero = refl
 abs-neg (suc n) = refl
 
+pub abs-zero : (z : ℤ) → natAbs z ≡ 0 → z ≡ pos 0
+abs-zero (pos n) e = ap pos e
+abs-zero (negsuc n) e = absurd (omega arith)
+
+-- P and N are at most the size
+pub size-pn : (z : ℤ) → (P z ≤ natAbs z) × (N z ≤ natAbs z)
+size-pn (pos n) = omega arith
+size-pn (negsuc n) = omega arith
+
 pub abs-up : (z : ℤ) → N z ≤ P z → natAbs z + N z ≡ P z
 abs-up (pos n) h = omega arith
 abs-up (negsuc n) h = absurd (omega arith)

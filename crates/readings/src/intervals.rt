@@ -1,9 +1,9 @@
 // Intervals. `of` tells whether the name is one of their readers.
 use crate::show;
 use interval::DayTimeRead;
-use interval::IntervalParseConfig;
-use interval::IntervalRead;
 use lines::names::default_unit;
+use total::IntervalParseConfig;
+use total::IntervalRead;
 use unit::IntervalUnit;
 use unit::UnitRead;
 

@@ -13,8 +13,8 @@ use column::times::Time32MillisecondType;
 use column::times::Time32SecondType;
 use column::times::Time64MicrosecondType;
 use column::times::Time64NanosecondType;
-use interval::IntervalParseConfig;
 use lines::names::default_unit;
+use total::IntervalParseConfig;
 use unit::UnitRead;
 ghost use Rattle.io.specs.Counts.{Counts};
 

@@ -3,7 +3,7 @@ use mathlib.Core.Path.{refl, sym, ap, _∙_}
 use mathlib.Core.Option.{Option}
 use Rattle.unit.specs.Read.{unitRead}
 use Rattle.unit.specs.declared.IntervalUnit.{IntervalUnit}
-use Rattle.interval.specs.Contribution.{counts}
+use Rattle.rule.specs.Contribution.{counts}
 use Rattle.cullpethi.specs.Cells.{inUnit}
 use Rattle.cullpethi.proofs.Numbering.{in-unit}
 use Rattle.cullpethi.proofs.Telling.{kept}

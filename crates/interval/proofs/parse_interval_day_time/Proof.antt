@@ -1,10 +1,10 @@
 -- `interval::parse_interval_day_time` meets its contract: the interval of the text, narrowed. Assumes nothing.
 use borrow.Author.Needs.{needs}
 use mathlib.Core.Path.{sym, ap, _∙_}
-use Rattle.interval.specs.Answer.{toDayTime, dayTime}
-use Rattle.interval.specs.Read.{intervalOutcome}
+use Rattle.rule.specs.Answer.{toDayTime, dayTime}
+use Rattle.total.specs.Read.{intervalOutcome}
 use Rattle.interval.specs.Helpers.{maybeDayTime}
-use Rattle.interval.proofs.Demand3.{day-time-meant}
+use Rattle.rule.proofs.Demand3.{day-time-meant}
 use Rattle.interval.proofs.Narrower.{narrows-to, narrows-none, narrows-refused}
 use Rattle.interval.proofs.parse_interval_day_time.Statement.{statement}
 use Rattle.interval.proofs.parse_interval_day_time.Tie as tie

@@ -1,6 +1,6 @@
 -- `interval::parse_interval_month_day_nano` meets its contract, with months for a unit that is left out. Assumes nothing.
 use borrow.Author.Needs.{needs}
-use Rattle.interval.specs.Answer.{plainMonthDayNano}
+use Rattle.rule.specs.Answer.{plainMonthDayNano}
 use Rattle.interval.proofs.parse_interval_month_day_nano.Statement.{statement}
 use Rattle.interval.proofs.parse_interval_month_day_nano.Tie as tie
 

@@ -1,6 +1,6 @@
 -- `interval::parse_interval_month_day_nano_config` meets its contract: what is computed is what the text means. Assumes nothing.
 use borrow.Author.Needs.{needs}
-use Rattle.interval.proofs.Demand3.{meant}
+use Rattle.rule.proofs.Demand3.{meant}
 use Rattle.interval.proofs.parse_interval_month_day_nano_config.Statement.{statement}
 use Rattle.interval.proofs.parse_interval_month_day_nano_config.Tie as tie
 

@@ -3,10 +3,10 @@ use borrow.Author.Needs.{needs}
 use mathlib.Core.Path.{sym, ap, _∙_}
 use mir.Syntax.{w32}
 use mir.Facts.{toZ-ofZ}
-use Rattle.interval.specs.Answer.{toYearMonths, yearMonth}
-use Rattle.interval.specs.Read.{intervalOutcome}
-use Rattle.interval.specs.Helpers.{maybeMonths}
-use Rattle.interval.proofs.Demand3.{year-month-meant}
+use Rattle.rule.specs.Answer.{toYearMonths, yearMonth}
+use Rattle.total.specs.Read.{intervalOutcome}
+use Rattle.count.specs.Read.{maybeMonths}
+use Rattle.rule.proofs.Demand3.{year-month-meant}
 use Rattle.interval.proofs.Narrower.{narrows-to, narrows-none, narrows-refused}
 use Rattle.interval.proofs.parse_interval_year_month.Statement.{statement}
 use Rattle.interval.proofs.parse_interval_year_month.Tie as tie

@@ -2,7 +2,7 @@
 use mathlib.Core.Path.{ap}
 use mir.Syntax.{w32}
 use mir.Facts.{toZ-ofZ}
-use Rattle.interval.specs.Meaning.{dayTimeOf}
+use Rattle.rule.specs.Meaning.{dayTimeOf}
 use Rattle.interval.specs.Read.{dayTimeOutcome}
 use Rattle.cullpethi.proofs.Telling.{written, both, kept}
 use borrow.Author.Needs.{needs}

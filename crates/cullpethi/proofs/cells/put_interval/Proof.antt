@@ -2,8 +2,8 @@
 use mathlib.Core.Path.{ap}
 use mir.Syntax.{w32, w64}
 use mir.Facts.{toZ-ofZ}
-use Rattle.interval.specs.Contribution.{counts}
-use Rattle.interval.specs.Read.{intervalOutcome}
+use Rattle.rule.specs.Contribution.{counts}
+use Rattle.total.specs.Read.{intervalOutcome}
 use Rattle.cullpethi.proofs.Telling.{written, three, kept}
 use borrow.Author.Needs.{needs}
 use Rattle.cullpethi.proofs.cells.put_interval.Statement.{statement}
