@@ -27,10 +27,10 @@ use Rattle.text.proofs.Bools.{by-test, both-ways}
 use Rattle.text.proofs.TrimAgrees as Trims
 use Rattle.time.specs.Answer.{timeNanos}
 use Rattle.time.proofs.Agreement as Times
-use Rattle.timestamp.specs.Answer.{datetime, stampNanos}
-use Rattle.timestamp.specs.Meaning.{Moment, instant}
-use Rattle.timestamp.proofs.Agreement as Stamps
-use Rattle.timestamp.proofs.Refusals as StampRefusals
+use Rattle.stamp_text.specs.Answer.{datetime, stampNanos}
+use Rattle.stamp_text.specs.Meaning.{Moment, instant}
+use Rattle.stamp_text.proofs.Agreement as Stamps
+use Rattle.stamp_text.proofs.Refusals as StampRefusals
 use Rattle.column.specs.Columns.{Column, TimestampNanosecond, TimestampMicrosecond, TimestampMillisecond, TimestampSecond, Time64Nanosecond, Time64Microsecond, Time32Millisecond, Time32Second, Date32, Date64, orElse, divided, onInteger, asInteger, millis, date64, timeColumn, column}
 use Rattle.column.specs.Meaning.{TimestampColumn, nanoseconds, microseconds, milliseconds, seconds, TimeColumn, nanoseconds-64, microseconds-64, milliseconds-32, seconds-32, ReaderReads, of-stamp, of-time, of-date, up-to-ten, beyond-ten, ReaderRefuses, no-stamp, no-time, no-date, no-date-up-to-ten, no-stamp-beyond-ten, ReadsGiven, by-reader, as-integer, Reads, as-given, once-trimmed, Refuses, never-trimmed, trimmed-too}
 use Rattle.column.proofs.Millis.{near}

@@ -16,7 +16,7 @@ use Rattle.text.specs.Utf8.{wellFormed}
 use Rattle.text.proofs.Table.{Row, row, Readings}
 use Rattle.text.specs.WhiteSpace.{white1, white2, white3, whiteOf}
 use Rattle.time.specs.Answer.{timeOfDay, timeNanos}
-use Rattle.timestamp.specs.Answer.{dayOf, timeOf, plainMoment}
+use Rattle.stamp_text.specs.Answer.{dayOf, timeOf, plainMoment}
 use Rattle.clock.specs.Clock.{nanosOf}
 use Rattle.column.specs.Columns.{Column, TimestampNanosecond, TimestampMicrosecond, TimestampMillisecond, TimestampSecond, Time64Nanosecond, Time64Microsecond, Time32Millisecond, Time32Second, Date32, Date64, column}
 

@@ -14,8 +14,8 @@ use Rattle.number.specs.Decimal.{integer}
 use Rattle.refusal.specs.Outcome.{Outcome, accepted, refused, andThen}
 use Rattle.text.specs.Trim.{trimmed}
 use Rattle.time.specs.Answer.{timeNanos}
-use Rattle.timestamp.specs.Answer.{datetime, stampNanos}
-use Rattle.timestamp.specs.Meaning.{instant}
+use Rattle.stamp_text.specs.Answer.{datetime, stampNanos}
+use Rattle.stamp_text.specs.Meaning.{instant}
 
 pub data Column : Type 0 where
   TimestampNanosecond TimestampMicrosecond TimestampMillisecond TimestampSecond : Column

@@ -16,8 +16,9 @@ ghost use Rattle.calendar.specs.Cycle.{YearStarts};
 ghost use Rattle.date.specs.Answer.{dayNamed};
 ghost use Rattle.number.specs.Widths.{floor};
 ghost use Rattle.refusal.specs.Outcome.{accepted, andThen, outcome32, outcome64};
-ghost use Rattle.timestamp.specs.Answer.{datetime, momentOf};
-ghost use Rattle.timestamp.specs.Meaning.{instant};
+ghost use Rattle.stamp_text.specs.Answer.{datetime};
+ghost use Rattle.timestamp.specs.Read.{momentOf};
+ghost use Rattle.stamp_text.specs.Meaning.{instant};
 ghost use Rattle.clock.specs.Clock.{nanosOfDay};
 ghost use Rattle.column.specs.Columns.{millis, column, Date32, Date64};
 

@@ -6,7 +6,7 @@ use timestamp::stamp::string_to_timestamp_nanos_with;
 ghost use mathlib.Core.Path.{_≡_};
 ghost use Rattle.calendar.specs.Cycle.{YearStarts};
 ghost use Rattle.refusal.specs.Outcome.{outcome64};
-ghost use Rattle.timestamp.specs.Answer.{stampNanos};
+ghost use Rattle.stamp_text.specs.Answer.{stampNanos};
 ghost use Rattle.column.specs.Columns.{retried, column, TimestampNanosecond, TimestampMicrosecond, TimestampMillisecond, TimestampSecond};
 
 pub struct TimestampNanosecondType {}

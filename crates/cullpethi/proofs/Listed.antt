@@ -28,8 +28,8 @@ use Rattle.text.specs.Trim.{trimmed}
 use Rattle.text.specs.Utf8.{utf8}
 use Rattle.time.specs.Answer.{timeOfDay, timeNanos}
 use Rattle.time.specs.Answer as Times
-use Rattle.timestamp.specs.Answer.{dayOf, Timed, timeOf, isEnding, isSeparator, onTime, onDate, plainMoment, inNanos, stampNanos}
-use Rattle.timestamp.specs.Meaning.{moment, instant}
+use Rattle.stamp_text.specs.Answer.{dayOf, Timed, timeOf, isEnding, isSeparator, onTime, onDate, plainMoment, inNanos, stampNanos}
+use Rattle.stamp_text.specs.Meaning.{moment, instant}
 use Rattle.site.specs.Site.{isSite, siteNanos}
 use Rattle.refusal.proofs.Outcomes.{clash, same}
 use Rattle.unit.specs.Units.{unitNumbered}

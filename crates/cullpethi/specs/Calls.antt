@@ -10,7 +10,7 @@ use Rattle.rule.specs.Meaning.{DayTime}
 use Rattle.refusal.specs.Outcome.{Outcome, accepted, numberOf}
 use Rattle.refusal.specs.declared.Refusal.{Refusal}
 use Rattle.time.specs.Answer.{timeNanos}
-use Rattle.timestamp.specs.Answer.{stampNanos}
+use Rattle.stamp_text.specs.Answer.{stampNanos}
 use Rattle.site.specs.Site.{siteNanos}
 use Rattle.unit.specs.Units.{unitNumbered}
 use Rattle.cullpethi.specs.Cells.{inUnit}

@@ -29,7 +29,7 @@ ghost use Rattle.rule.specs.Answer.{dayTime, plainMonthDayNano, yearMonth};
 ghost use Rattle.rule.specs.Meaning.{dayTimeOf};
 ghost use Rattle.rule.specs.Contribution.{counts};
 ghost use Rattle.time.specs.Answer.{timeNanos};
-ghost use Rattle.timestamp.specs.Answer.{stampNanos};
+ghost use Rattle.stamp_text.specs.Answer.{stampNanos};
 ghost use Rattle.site.specs.Site.{siteNanos};
 ghost use Rattle.unit.specs.Units.{unitNumbered};
 ghost use Rattle.cullpethi.specs.Cells.{Told, inUnit};

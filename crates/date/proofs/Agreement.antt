@@ -28,9 +28,9 @@ use Rattle.text.proofs.DigitLists.{one-value, two-value, four-value}
 use Rattle.text.proofs.Logic.{none-some, both}
 use Rattle.text.proofs.Places.{not-sign, sign-inside, seven, eight}
 use Rattle.clock.proofs.Figures.{by-one, by-two, by-four, one-figure, two-figures, four-figures, size-of, ascii-figures}
-use Rattle.timestamp.specs.Answer.{isDate, dayOf, plainMoment}
-use Rattle.timestamp.specs.Meaning.{Moment}
-use Rattle.timestamp.proofs.Agreement as Stamps
+use Rattle.stamp_text.specs.Answer.{isDate, dayOf, plainMoment}
+use Rattle.stamp_text.specs.Meaning.{Moment}
+use Rattle.stamp_text.proofs.Agreement as Stamps
 use Rattle.date.specs.Grammar.{OneOrTwo, one, two, Sign, DateText, compact, hyphens, signed, NamesDay, of-date, of-stamp, Reads, reads}
 use Rattle.date.specs.Grammar as Grammar
 use Rattle.date.specs.Answer.{isSign, toHyphen, numbers, monthDay, extendedYmd, dayWith, signedDay, fourDigits, fourAt, compactDay, lastDay, hyphenDay, shortDay, onDay, plainDay, dayNamed, inDays, dateDays}

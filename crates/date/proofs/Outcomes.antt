@@ -11,8 +11,8 @@ use Rattle.refusal.specs.Outcome.{Outcome, accepted, refused, andThen}
 use Rattle.text.specs.Utf8.{utf8}
 use Rattle.text.proofs.Bools.{by-test}
 use Rattle.refusal.proofs.Outcomes.{orRange}
-use Rattle.timestamp.specs.Answer.{datetime}
-use Rattle.timestamp.specs.Meaning.{Moment}
+use Rattle.stamp_text.specs.Answer.{datetime}
+use Rattle.stamp_text.specs.Meaning.{Moment}
 use Rattle.date.specs.Answer.{isSign, signedDay, shortDay, onDay, plainDay, dayNamed, inDays}
 
 -- ---- in days

@@ -12,7 +12,7 @@ use Rattle.number.specs.Widths.{inSigned}
 use Rattle.number.specs.Decimal.{integer}
 use Rattle.refusal.specs.Outcome.{Outcome, accepted, refused, because, inUtf8, andThen}
 use Rattle.text.specs.Digits.{isDigit, worth, twoDigits, twoAt}
-use Rattle.timestamp.specs.Answer.{plainMoment}
+use Rattle.stamp_text.specs.Answer.{plainMoment}
 use Rattle.date.specs.declared.Named.{Named}
 use Rattle.date.specs.declared.Named.the-variants.{Day as NamedDay, Refused as NamedRefused}
 use Rattle.clock.specs.Grammar.{noDigits}

@@ -17,7 +17,7 @@ ghost use Rattle.calendar.specs.Calendar.{day};
 ghost use Rattle.calendar.specs.Cycle.{YearStarts};
 ghost use Rattle.refusal.specs.Outcome.{accepted, andThen, outcome32};
 ghost use Rattle.text.specs.Digits.{isDigit};
-ghost use Rattle.timestamp.specs.Answer.{datetime};
+ghost use Rattle.stamp_text.specs.Answer.{datetime};
 ghost use Rattle.date.specs.Answer.{signedDay, onDay, inDays, plainDay, dayNamed, dateDays, namedIs};
 
 // The day that a text names: a signed date, a date of at most 10 bytes, or the date of a stamp.

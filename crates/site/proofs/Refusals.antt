@@ -9,11 +9,11 @@ use Rattle.refusal.specs.Outcome.{Outcome, accepted, refused, andThen}
 use Rattle.refusal.proofs.Outcomes.{clash, same}
 use Rattle.text.proofs.Bools.{by-test, holds-not}
 use Rattle.clock.specs.Clock.{Clock}
-use Rattle.timestamp.specs.Grammar.{Ymd}
-use Rattle.timestamp.specs.Answer.{stampNanos}
-use Rattle.timestamp.specs.Meaning.{names, Reads, reads}
-use Rattle.timestamp.proofs.Agreement.{read-as}
-use Rattle.timestamp.proofs.Refusals as plain
+use Rattle.stamp_text.specs.Grammar.{Ymd}
+use Rattle.stamp_text.specs.Answer.{stampNanos}
+use Rattle.stamp_text.specs.Meaning.{names, Reads, reads}
+use Rattle.stamp_text.proofs.Agreement.{read-as}
+use Rattle.stamp_text.proofs.Refusals as plain
 use Rattle.site.specs.Site.{SiteStamp, SiteRefuses, as-plain, no-site, isSite, siteNanos}
 use Rattle.site.proofs.SiteAgrees.{site-test, site-of}
 

@@ -19,11 +19,11 @@ use Rattle.refusal.proofs.Outcomes.{clash}
 use Rattle.text.proofs.DigitLists.{two-value}
 use Rattle.text.proofs.Places.{not-sign, last-of}
 use Rattle.clock.proofs.Figures.{by-two, by-fields, size-of, seconds-end}
-use Rattle.timestamp.specs.Grammar.{Ymd, FullDate, PartialTime, colons, basic, capital, Ending, none-given, capital-z, small-z, Stamp, date-alone, date-time}
-use Rattle.timestamp.specs.Answer.{hasColons, stampNanos}
-use Rattle.timestamp.specs.Meaning.{moment, instant, names, Reads, reads}
+use Rattle.stamp_text.specs.Grammar.{Ymd, FullDate, PartialTime, colons, basic, capital, Ending, none-given, capital-z, small-z, Stamp, date-alone, date-time}
+use Rattle.stamp_text.specs.Answer.{hasColons, stampNanos}
+use Rattle.stamp_text.specs.Meaning.{moment, instant, names, Reads, reads}
 use Rattle.site.specs.Site.{SiteStamp, site, SiteReads, site-reads, isLeap, isSite, siteNanos}
-use Rattle.timestamp.proofs.Agreement.{seam, date-size, read-as}
+use Rattle.stamp_text.proofs.Agreement.{seam, date-size, read-as}
 
 -- ---- a site stamp is a stamp, and passes the test
 

@@ -8,7 +8,7 @@ use lib.ListN.{getD, drop, length}
 use Rattle.text.specs.Digits.{digitOf, twoDigits}
 use Rattle.text.proofs.Bools.{and-false, by-test}
 use Rattle.text.proofs.TwoDigits.{sign, two-is, all-five}
-use Rattle.timestamp.specs.Answer.{hasColons}
+use Rattle.stamp_text.specs.Answer.{hasColons}
 use Rattle.site.specs.Site.{isSite}
 use Rattle.timestamp.proofs.Times.{ColonsRead, colonsTest, colons, cut-short}
 

@@ -15,9 +15,9 @@ use Rattle.refusal.specs.Outcome.{Outcome, accepted, refused, andThen}
 use Rattle.text.specs.Digits.{value, twoAt}
 use Rattle.clock.specs.Clock.{Clock, clock, inRange, sinceMidnight}
 use Rattle.clock.specs.Grammar.{Figures, Secfrac}
-use Rattle.timestamp.specs.Grammar.{Ymd, FullDate}
-use Rattle.timestamp.specs.Answer.{hasColons, stampNanos}
-use Rattle.timestamp.specs.Meaning.{moment, instant, Reads, Refuses}
+use Rattle.stamp_text.specs.Grammar.{Ymd, FullDate}
+use Rattle.stamp_text.specs.Answer.{hasColons, stampNanos}
+use Rattle.stamp_text.specs.Meaning.{moment, instant, Reads, Refuses}
 
 -- a text and the date and the time that it writes
 pub data SiteStamp : List ℕ → Ymd → Clock → Type 0 where

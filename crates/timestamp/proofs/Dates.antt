@@ -11,7 +11,7 @@ use borrow.Author.Tests.{not-true, not-false}
 use Rattle.calendar.specs.Calendar.{civil}
 use Rattle.text.specs.Digits.{digitOf, twoDigits}
 use Rattle.text.proofs.Bools.{and-false}
-use Rattle.timestamp.specs.Answer.{isDate, dayOf}
+use Rattle.stamp_text.specs.Answer.{isDate, dayOf}
 use Rattle.text.proofs.TwoDigits.{twoOr, past-end, two-test, two-is, sign-test, all-six}
 
 -- century, year of it, month and day are the numbers at their places, and h and k the bytes between

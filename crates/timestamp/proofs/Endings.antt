@@ -7,7 +7,7 @@ use native.Mathlib.Omega.{arith}
 use lib.Dec.{eqb}
 use lib.ListN.{getD, length, drop, drop-of-length-le}
 use lib.Seq.{drop-cons}
-use Rattle.timestamp.specs.Answer.{isEnding}
+use Rattle.stamp_text.specs.Answer.{isEnding}
 
 module _ (s : List ℕ) (e : ℕ) where
   pub nothing-left : length s ≤ e → true ≡ isEnding (drop e s)

@@ -13,7 +13,7 @@ use Rattle.text.specs.Digits.{digitOf, run, value}
 use Rattle.text.proofs.Bools.{by-test}
 use Rattle.clock.specs.Clock.{inRange, nanosOf}
 use Rattle.clock.proofs.Nanos.{of-run, counted}
-use Rattle.timestamp.specs.Answer.{Timed, afterSeconds, timedAt}
+use Rattle.stamp_text.specs.Answer.{Timed, afterSeconds, timedAt}
 use Rattle.text.proofs.TwoDigits.{sign-test}
 
 -- ---- a time and the bytes after it

@@ -12,7 +12,7 @@ use borrow.Author.Tests.{not-true, not-false}
 use Rattle.text.specs.Digits.{isDigit, digitOf, twoDigits, value}
 use Rattle.text.proofs.Bools.{and-false}
 use Rattle.clock.specs.Clock.{nanosOf}
-use Rattle.timestamp.specs.Answer.{hasColons, isBasic, afterSeconds, basicTime, timedAt, timeOf}
+use Rattle.stamp_text.specs.Answer.{hasColons, isBasic, afterSeconds, basicTime, timedAt, timeOf}
 use Rattle.text.proofs.TwoDigits.{twoOr, past-end, two-test, two-is, sign-test, digit-test, all-five}
 
 -- ---- with colons: hour, minute and second are the numbers at their places, and a and b the bytes between

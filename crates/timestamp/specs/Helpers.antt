@@ -6,7 +6,7 @@ use lib.ListN.{drop}
 use Rattle.clock.specs.Clock.{nanosOfDay}
 use Rattle.timestamp.specs.declared.TimeAndEnd.{TimeAndEnd}
 use Rattle.timestamp.specs.declared.TimeAndEnd.the-variants.{At as Ends, None as NoTime}
-use Rattle.timestamp.specs.Answer.{Timed}
+use Rattle.stamp_text.specs.Answer.{Timed}
 
 -- a time of a text s, and the place where it ends
 abbrev pub endsAt : List ℕ → TimeAndEnd → Option Timed

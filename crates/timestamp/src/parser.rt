@@ -13,7 +13,7 @@ ghost use Prim.Native.Nat.{_+_, _≤_, _<_};
 ghost use lib.ListN.{length, drop};
 ghost use Rattle.calendar.specs.Calendar.{day};
 ghost use Rattle.calendar.specs.Cycle.{YearStarts};
-ghost use Rattle.timestamp.specs.Answer.{dayOf, basicTime, afterSeconds, timeOf, timedAt};
+ghost use Rattle.stamp_text.specs.Answer.{dayOf, basicTime, afterSeconds, timeOf, timedAt};
 ghost use Rattle.timestamp.specs.Helpers.{endsAt};
 
 // Parses a date of the form `1997-01-31`.

@@ -20,8 +20,9 @@ ghost use Rattle.calendar.specs.Cycle.{YearStarts};
 ghost use Rattle.number.specs.Widths.{fit, int64};
 ghost use Rattle.refusal.specs.Outcome.{outcome64};
 ghost use Rattle.clock.specs.Clock.{nanosOfDay};
-ghost use Rattle.timestamp.specs.Answer.{isEnding, plainMoment, afterDate, atEnd, datetime, stampNanos, inNanos, momentOf, momentIs};
-ghost use Rattle.timestamp.specs.Meaning.{instant};
+ghost use Rattle.stamp_text.specs.Answer.{isEnding, plainMoment, afterDate, atEnd, datetime, stampNanos, inNanos};
+ghost use Rattle.timestamp.specs.Read.{momentOf, momentIs};
+ghost use Rattle.stamp_text.specs.Meaning.{instant};
 
 // Reads a stamp in UTC
 // * `1997-01-31T09:26:56.123Z`        # RFC 3339

@@ -1,7 +1,7 @@
 -- `site::site_stamp_with` meets its contract. Assumes nothing.
 use mathlib.Core.Path.{_≡_, sym, ap, _∙_}
 use Rattle.refusal.specs.Outcome.{accepted, because, outcome64}
-use Rattle.timestamp.specs.Answer.{stampNanos}
+use Rattle.stamp_text.specs.Answer.{stampNanos}
 use mir.Syntax.{w64}
 use mir.Facts.{toZ-ofZ}
 use borrow.Author.Needs.{needs}

@@ -4,10 +4,11 @@ use mir.Syntax.{w64}
 use lib.IntN.{ℤ}
 use mir.Facts.{toZ-ofZ}
 use Rattle.refusal.specs.Outcome.{Outcome, accepted, andThen}
-use Rattle.timestamp.specs.Answer.{momentOf, momentIs, datetime}
-use Rattle.timestamp.specs.Meaning.{Moment, instant}
-use Rattle.timestamp.proofs.Agreement.{agrees}
-use Rattle.timestamp.proofs.Bounds.{moment-most}
+use Rattle.stamp_text.specs.Answer.{datetime}
+use Rattle.timestamp.specs.Read.{momentOf, momentIs}
+use Rattle.stamp_text.specs.Meaning.{Moment, instant}
+use Rattle.stamp_text.proofs.Agreement.{agrees}
+use Rattle.stamp_text.proofs.Bounds.{moment-most}
 use Rattle.column.specs.Columns.{millis}
 use Rattle.column.proofs.Millis.{near}
 use borrow.Author.Needs.{needs}

@@ -2,7 +2,7 @@
 use mathlib.Core.Path.{sym, ap, _∙_}
 use mir.Syntax.{w64}
 use Rattle.refusal.specs.Outcome.{outcome64}
-use Rattle.timestamp.specs.Answer.{stampNanos}
+use Rattle.stamp_text.specs.Answer.{stampNanos}
 use Rattle.column.proofs.Outcomes.{as-given, once-trimmed}
 use borrow.Author.Needs.{needs}
 use Rattle.column.proofs.stamps.nanos.Statement.{statement}

@@ -3,7 +3,7 @@ use mathlib.Core.Path.{sym, ap, _∙_}
 use mir.Syntax.{w64}
 use mir.Facts.{toZ-ofZ}
 use borrow.Author.Needs.{needs}
-use Rattle.timestamp.specs.Answer.{momentIs}
+use Rattle.timestamp.specs.Read.{momentIs}
 use Rattle.date.proofs.Outcomes.{itsDay}
 use Rattle.date.proofs.days.stamp_day.Statement.{statement}
 use Rattle.date.proofs.days.stamp_day.Tie as tie

@@ -6,7 +6,7 @@ use lib.ListN.{drop}
 use borrow.Author.Needs.{needs}
 use Rattle.clock.specs.declared.Time.{Time}
 use Rattle.clock.specs.Clock.{timeIs}
-use Rattle.timestamp.specs.Answer.{timedAt}
+use Rattle.stamp_text.specs.Answer.{timedAt}
 use Rattle.timestamp.proofs.Fractions.{withTail, timed-at}
 use Rattle.timestamp.proofs.parser.at.Statement.{statement}
 use Rattle.timestamp.proofs.parser.at.Tie as tie

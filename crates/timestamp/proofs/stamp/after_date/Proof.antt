@@ -3,7 +3,7 @@ use mathlib.Core.Path.{_≡_, sym, ap, _∙_}
 use mir.Facts.{toZ-ofZ}
 use borrow.Author.Needs.{needs}
 use Rattle.timestamp.specs.declared.TimeAndEnd.{TimeAndEnd}
-use Rattle.timestamp.specs.Answer.{onTime, afterDate}
+use Rattle.stamp_text.specs.Answer.{onTime, afterDate}
 use Rattle.timestamp.specs.Helpers.{endsAt}
 use Rattle.timestamp.proofs.Outcomes.{midnight, not-separated, separated}
 use Rattle.timestamp.proofs.stamp.after_date.Statement.{statement}

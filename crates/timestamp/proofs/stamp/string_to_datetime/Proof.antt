@@ -3,8 +3,9 @@ use mathlib.Core.Path.{_≡_, sym, ap, _∙_}
 use borrow.Author.Needs.{needs}
 use Rattle.refusal.specs.Outcome.{accepted}
 use Rattle.refusal.proofs.Outcomes.{refused-in}
-use Rattle.timestamp.specs.Answer.{momentOf, momentIs, plainMoment}
-use Rattle.timestamp.proofs.Agreement.{read-utf8}
+use Rattle.stamp_text.specs.Answer.{plainMoment}
+use Rattle.timestamp.specs.Read.{momentOf, momentIs}
+use Rattle.stamp_text.proofs.Agreement.{read-utf8}
 use Rattle.timestamp.proofs.stamp.string_to_datetime.Statement.{statement}
 use Rattle.timestamp.proofs.stamp.string_to_datetime.Tie as tie
 

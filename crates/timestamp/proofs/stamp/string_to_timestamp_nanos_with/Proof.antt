@@ -1,7 +1,7 @@
 -- `timestamp::stamp::string_to_timestamp_nanos_with` meets its contract: a moment goes on to its nanoseconds. Assumes nothing.
 use mathlib.Core.Path.{sym, ap, _∙_}
 use borrow.Author.Needs.{needs}
-use Rattle.timestamp.specs.Answer.{momentIs}
+use Rattle.timestamp.specs.Read.{momentIs}
 use Rattle.timestamp.proofs.Outcomes.{onward}
 use Rattle.timestamp.proofs.stamp.string_to_timestamp_nanos_with.Statement.{statement}
 use Rattle.timestamp.proofs.stamp.string_to_timestamp_nanos_with.Tie as tie

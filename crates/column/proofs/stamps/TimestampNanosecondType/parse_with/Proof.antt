@@ -1,6 +1,6 @@
 -- `column::stamps::TimestampNanosecondType::parse_with` meets its contract: the nanoseconds, as they are. Assumes nothing.
 use mathlib.Core.Path.{sym, _∙_}
-use Rattle.timestamp.specs.Answer.{stampNanos}
+use Rattle.stamp_text.specs.Answer.{stampNanos}
 use Rattle.column.specs.Columns.{retried}
 use Rattle.column.proofs.Outcomes.{whole}
 use borrow.Author.Needs.{needs}

@@ -20,9 +20,9 @@ use Rattle.text.proofs.TwoDigits.{all-five}
 use Rattle.clock.specs.Clock.{Clock, clock, inRange, nanosOf, sinceMidnight}
 use Rattle.clock.specs.Grammar.{no-fraction, fraction, noDigits}
 use Rattle.clock.proofs.Figures.{by-fields, two-figures}
-use Rattle.timestamp.specs.Grammar.{PartialTime, colons, basic, Ending, none-given, capital-z, small-z}
-use Rattle.timestamp.specs.Answer.{hasColons, isBasic, Timed, timedAt, timed, withFraction, afterSeconds, timeOf}
-use Rattle.timestamp.specs.Meaning.{LongestTime, whole, parted, compact}
+use Rattle.stamp_text.specs.Grammar.{PartialTime, colons, basic, Ending, none-given, capital-z, small-z}
+use Rattle.stamp_text.specs.Answer.{hasColons, isBasic, Timed, timedAt, timed, withFraction, afterSeconds, timeOf}
+use Rattle.stamp_text.specs.Meaning.{LongestTime, whole, parted, compact}
 
 -- the fields of a time, in range
 abbrev pub Ok : Clock → Type 0

@@ -1,4 +1,4 @@
--- What a stamp reads as, computed, with the refusals 1 to 6 of document 01 in order. `Rattle.timestamp.proofs.Agreement` joins the
+-- What a stamp reads as, computed, with the refusals 1 to 6 of document 01 in order. `Rattle.stamp_text.proofs.Agreement` joins the
 -- computation to the grammar. Assumes nothing.
 use mathlib.Core.Bool.{Bool, true, false, cond, not, _&&_, _||_}
 use mathlib.Core.List.{List, [], _∷_}
@@ -9,13 +9,10 @@ use lib.ListN.{length, getD, take, drop}
 use lib.IntN.{ℤ, pos, _+ℤ_, _*ℤ_}
 use Rattle.calendar.specs.Calendar.{civil}
 use Rattle.number.specs.Widths.{inSigned}
-use Rattle.refusal.specs.Outcome.{Outcome, accepted, refused, because, inUtf8, andThen}
+use Rattle.refusal.specs.Outcome.{Outcome, accepted, refused, inUtf8, andThen}
 use Rattle.text.specs.Digits.{isDigit, twoDigits, twoAt, run}
-use Rattle.timestamp.specs.declared.DateTime.{DateTime}
-use Rattle.timestamp.specs.declared.DateTime.the-variants.{At as Moment·At, Refused as Moment·Refused}
-use Rattle.timestamp.specs.declared.NaiveDateTime.{NaiveDateTime}
-use Rattle.clock.specs.Clock.{inRange, nanosOf, nanosOfDay}
-use Rattle.timestamp.specs.Meaning.{Moment, moment, instant}
+use Rattle.clock.specs.Clock.{inRange, nanosOf}
+use Rattle.stamp_text.specs.Meaning.{Moment, moment, instant}
 
 -- the text begins with yyyy-mm-dd
 abbrev pub isDate : List ℕ → Bool
@@ -109,12 +106,3 @@ inNanos z = cond (inSigned 63 z) (accepted z) (refused 6)
 -- the instant that a stamp names, in nanoseconds
 abbrev pub stampNanos : List ℕ → Outcome ℤ
 stampNanos t = andThen (datetime t) (λ m. inNanos (instant m))
-
--- ---- what the answers of the code say
-
-abbrev pub momentOf : NaiveDateTime → Moment
-momentOf x = moment (x .day) (nanosOfDay (x .time))
-
-abbrev pub momentIs : DateTime → Outcome Moment
-momentIs (Moment·At x) = accepted (momentOf x)
-momentIs (Moment·Refused why) = because why

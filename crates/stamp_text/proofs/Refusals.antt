@@ -19,10 +19,10 @@ use Rattle.text.proofs.Utf8Agrees as utf
 use Rattle.refusal.proofs.Outcomes.{clash, same}
 use Rattle.text.proofs.Logic.{none-some}
 use Rattle.clock.specs.Clock.{Clock}
-use Rattle.timestamp.specs.Answer.{isDate, dayOf, Timed, timeOf, isEnding, isSeparator, onTime, afterDate, onDate, plainMoment, datetime, inNanos, stampNanos}
-use Rattle.timestamp.specs.Meaning.{Moment, instant, Dated, dated, LongestTime, Refuses, not-utf8, no-date, no-separator, no-time, more-after, out-of-range}
-use Rattle.timestamp.proofs.LongestTimes.{time-read, time-sound}
-use Rattle.timestamp.proofs.Agreement.{agrees, seam, date-size, day-read, DateIs, date-sound, is-separator, separator-sound, is-ending, ending-sound}
+use Rattle.stamp_text.specs.Answer.{isDate, dayOf, Timed, timeOf, isEnding, isSeparator, onTime, afterDate, onDate, plainMoment, datetime, inNanos, stampNanos}
+use Rattle.stamp_text.specs.Meaning.{Moment, instant, Dated, dated, LongestTime, Refuses, not-utf8, no-date, no-separator, no-time, more-after, out-of-range}
+use Rattle.stamp_text.proofs.LongestTimes.{time-read, time-sound}
+use Rattle.stamp_text.proofs.Agreement.{agrees, seam, date-size, day-read, DateIs, date-sound, is-separator, separator-sound, is-ending, ending-sound}
 
 is-utf8 : {t : List ℕ} → Utf8 t → utf8 t ≡ true
 is-utf8 {t} u = utf.agrees t .0 u

@@ -1,6 +1,6 @@
 -- What a stamp names, as relations: a text of the grammar whose date is a day of the calendar and whose time is in range names a moment,
 -- and is read as the nanoseconds of its instant where they fit 64 signed bits; and why any other text is refused.
--- `Rattle.timestamp.proofs.Agreement` and `Refusals` join this to the computation. Assumes nothing.
+-- `Rattle.stamp_text.proofs.Agreement` and `Refusals` join this to the computation. Assumes nothing.
 use mathlib.Core.Path.{_≡_}
 use mathlib.Core.Bool.{true, false}
 use mathlib.Core.Logic.{_⊎_}
@@ -15,7 +15,7 @@ use Rattle.text.specs.Digits.{isDigit, digits, value}
 use Rattle.text.specs.Utf8.{Utf8}
 use Rattle.clock.specs.Clock.{Clock, clock, inRange, sinceMidnight}
 use Rattle.clock.specs.Grammar.{Figures, Secfrac, noDigits}
-use Rattle.timestamp.specs.Grammar.{Ymd, FullDate, Separator, Ending, Stamp}
+use Rattle.stamp_text.specs.Grammar.{Ymd, FullDate, Separator, Ending, Stamp}
 
 -- RFC 3339, section 5.6, its own date-time in UTC: full-date "T" partial-time "Z", the letters in either case, with colons
 pub data Rfc3339 : List ℕ → Ymd → Clock → Type 0 where

@@ -1,0 +1,5 @@
+-- The relations and the computation agree.
+pub mod LongestTimes
+pub mod Agreement
+pub mod Refusals
+pub mod Bounds
