@@ -33,7 +33,8 @@ use Rattle.timestamp.specs.Meaning.{moment, instant}
 use Rattle.site.specs.Site.{isSite, siteNanos}
 use Rattle.refusal.proofs.Outcomes.{clash, same}
 use Rattle.unit.specs.Units.{unitNumbered}
-use Rattle.cullpethi.specs.Cells.{Told, inUnit}
+use Rattle.cells.specs.Cells.{Told}
+use Rattle.cullpethi.specs.DefaultUnit.{inUnit}
 use Rattle.cullpethi.specs.Calls.{Call, string-to-timestamp-nanos, string-to-time-nanoseconds, site-stamp, parse, interval-year-month, interval-day-time, interval-month-day-nano, interval-month-day-nano-config, CellsOf, answer, Accepts, accepts, OnList, on-list}
 
 -- an outcome whose number, where it is refused, is on the list

@@ -7,7 +7,7 @@ ghost use Rattle.refusal.specs.Outcome.{outcome32, outcome64};
 ghost use Rattle.interval.specs.Meaning.{dayTimeOf};
 ghost use Rattle.interval.specs.Contribution.{counts};
 ghost use Rattle.interval.specs.Read.{dayTimeOutcome, intervalOutcome};
-ghost use Rattle.cullpethi.specs.Cells.{Told};
+ghost use Rattle.cells.specs.Cells.{Told};
 
 pub fn put64(r: Read64, out: &mut i64) -> u8
     ensures { λ status. ⌜ Told (outcome64 r) status (now (out .entry)) (now (out .exit)) ⌝ }

@@ -1,13 +1,13 @@
--- `cullpethi::cells::put_interval` meets its contract: the three counts are written, or the three cells are kept. Assumes nothing.
+-- `cells::put_interval` meets its contract: the three counts are written, or the three cells are kept. Assumes nothing.
 use mathlib.Core.Path.{ap}
 use mir.Syntax.{w32, w64}
 use mir.Facts.{toZ-ofZ}
 use Rattle.interval.specs.Contribution.{counts}
 use Rattle.interval.specs.Read.{intervalOutcome}
-use Rattle.cullpethi.proofs.Telling.{written, three, kept}
+use Rattle.cells.proofs.Telling.{written, three, kept}
 use borrow.Author.Needs.{needs}
-use Rattle.cullpethi.proofs.cells.put_interval.Statement.{statement}
-use Rattle.cullpethi.proofs.cells.put_interval.Tie as tie
+use Rattle.cells.proofs.put_interval.Statement.{statement}
+use Rattle.cells.proofs.put_interval.Tie as tie
 
 enum-known-r : tie.Need-enum-known-r
 enum-known-r c = search needs

@@ -1,12 +1,12 @@
--- `cullpethi::cells::put32` meets its contract: the value is written, or the cell is kept. Assumes nothing.
+-- `cells::put32` meets its contract: the value is written, or the cell is kept. Assumes nothing.
 use mathlib.Core.Path.{ap}
 use mir.Syntax.{w32}
 use mir.Facts.{toZ-ofZ}
 use Rattle.refusal.specs.Outcome.{outcome32}
-use Rattle.cullpethi.proofs.Telling.{written, kept}
+use Rattle.cells.proofs.Telling.{written, kept}
 use borrow.Author.Needs.{needs}
-use Rattle.cullpethi.proofs.cells.put32.Statement.{statement}
-use Rattle.cullpethi.proofs.cells.put32.Tie as tie
+use Rattle.cells.proofs.put32.Statement.{statement}
+use Rattle.cells.proofs.put32.Tie as tie
 
 enum-known-r : tie.Need-enum-known-r
 enum-known-r c = search needs

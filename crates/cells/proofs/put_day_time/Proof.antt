@@ -1,13 +1,13 @@
--- `cullpethi::cells::put_day_time` meets its contract: both counts are written, or both cells are kept. Assumes nothing.
+-- `cells::put_day_time` meets its contract: both counts are written, or both cells are kept. Assumes nothing.
 use mathlib.Core.Path.{ap}
 use mir.Syntax.{w32}
 use mir.Facts.{toZ-ofZ}
 use Rattle.interval.specs.Meaning.{dayTimeOf}
 use Rattle.interval.specs.Read.{dayTimeOutcome}
-use Rattle.cullpethi.proofs.Telling.{written, both, kept}
+use Rattle.cells.proofs.Telling.{written, both, kept}
 use borrow.Author.Needs.{needs}
-use Rattle.cullpethi.proofs.cells.put_day_time.Statement.{statement}
-use Rattle.cullpethi.proofs.cells.put_day_time.Tie as tie
+use Rattle.cells.proofs.put_day_time.Statement.{statement}
+use Rattle.cells.proofs.put_day_time.Tie as tie
 
 enum-known-r : tie.Need-enum-known-r
 enum-known-r c = search needs

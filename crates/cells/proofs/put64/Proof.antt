@@ -1,12 +1,12 @@
--- `cullpethi::cells::put64` meets its contract: the value is written, or the cell is kept. Assumes nothing.
+-- `cells::put64` meets its contract: the value is written, or the cell is kept. Assumes nothing.
 use mathlib.Core.Path.{ap}
 use mir.Syntax.{w64}
 use mir.Facts.{toZ-ofZ}
 use Rattle.refusal.specs.Outcome.{outcome64}
-use Rattle.cullpethi.proofs.Telling.{written, kept}
+use Rattle.cells.proofs.Telling.{written, kept}
 use borrow.Author.Needs.{needs}
-use Rattle.cullpethi.proofs.cells.put64.Statement.{statement}
-use Rattle.cullpethi.proofs.cells.put64.Tie as tie
+use Rattle.cells.proofs.put64.Statement.{statement}
+use Rattle.cells.proofs.put64.Tie as tie
 
 enum-known-r : tie.Need-enum-known-r
 enum-known-r c = search needs

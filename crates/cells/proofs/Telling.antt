@@ -5,7 +5,7 @@ use lib.IntN.{ℤ}
 use Rattle.refusal.specs.Outcome.{Outcome, accepted, refused}
 use Rattle.interval.specs.Meaning.{dayTimeOf}
 use Rattle.interval.specs.Contribution.{counts}
-use Rattle.cullpethi.specs.Cells.{Told}
+use Rattle.cells.specs.Cells.{Told}
 
 module _ {A : Type 0} where
   pub written : {o : Outcome A} {v after : A} (before : A) → o ≡ accepted v → after ≡ v → Told o 0 before after
