@@ -25,7 +25,7 @@ use Rattle.refusal.specs.Outcome.{Outcome, accepted, refused, because, andThen,
 use Rattle.refusal.specs.declared.Refusal.{Refusal}
 use Rattle.refusal.specs.declared.Refusal.the-variants.{NotUtf8, Date, Separator, Time, Tail, Range, TimeOfDay, Interval, RepeatedUnit, Overflow, Narrowed, SiteStamp}
 use Rattle.text.specs.Trim.{trimmed}
-use Rattle.text.specs.Utf8.{utf8}
+use Rattle.utf8.specs.Utf8.{utf8}
 use Rattle.time.specs.Answer.{timeOfDay, timeNanos}
 use Rattle.time.specs.Answer as Times
 use Rattle.timestamp.specs.Answer.{dayOf, Timed, timeOf, isEnding, isSeparator, onTime, onDate, plainMoment, inNanos, stampNanos}
