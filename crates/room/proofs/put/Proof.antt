@@ -1,4 +1,4 @@
--- `lines::output::put` meets its contract. The loop's invariant: what is put and what is left to put make the whole. Assumes nothing.
+-- `room::put` meets its contract. The loop's invariant: what is put and what is left to put make the whole. Assumes nothing.
 use mathlib.Core.Path.{_≡_, sym}
 use mathlib.Core.List.{_∷_, _++_}
 use Prim.Native.Nat.{_+_, _-_, _≤_}
@@ -6,10 +6,10 @@ use native.Mathlib.Omega.{arith}
 use native.Mathlib.Numerals.{add-one}
 use lib.ListN.{length, getD, take, drop, length-set, drop-of-length-le}
 use lib.Seq.{drop-cons, length-take-le}
-use Rattle.lines.proofs.Filling.{one-more, full, all, within-room}
+use Rattle.room.proofs.Filling.{one-more, full, all, within-room}
 use borrow.Author.Needs.{needs}
-use Rattle.lines.proofs.output.put.Statement.{statement}
-use Rattle.lines.proofs.output.put.Tie as tie
+use Rattle.room.proofs.put.Statement.{statement}
+use Rattle.room.proofs.put.Tie as tie
 
 abbrev Inv-loop : tie.InvT-loop
 Inv-loop s n out₀ i₀ k₀ out i k = (i ≤ length s) × (k ≤ length out) × (length out ≡ length out₀) × (take k out ++ drop i s ≡ take n out₀ ++ s)

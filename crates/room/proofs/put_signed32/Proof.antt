@@ -1,13 +1,13 @@
--- `lines::output::put_signed32` meets its contract: a number of 32 bits is the same one of 64. Assumes nothing.
+-- `room::put_signed32` meets its contract: a number of 32 bits is the same one of 64. Assumes nothing.
 use mathlib.Core.Path.{_∙_, ap}
 use lib.IntN.{ℤ}
 use mir.Facts.{toZ-ofZ}
 use Rattle.number.proofs.Narrowing.{widens}
-use Rattle.lines.specs.Decimal.{signedText}
-use Rattle.lines.specs.Room.{appended}
+use Rattle.room.specs.Decimal.{signedText}
+use Rattle.room.specs.Room.{appended}
 use borrow.Author.Needs.{needs}
-use Rattle.lines.proofs.output.put_signed32.Statement.{statement}
-use Rattle.lines.proofs.output.put_signed32.Tie as tie
+use Rattle.room.proofs.put_signed32.Statement.{statement}
+use Rattle.room.proofs.put_signed32.Tie as tie
 
 cast-put-signed : tie.Need-cast-put-signed
 cast-put-signed c = widens (c .before .fits .z) tt

@@ -1,12 +1,12 @@
--- `lines::output::put_number` meets its contract: the fewest digits are those with no zeros in front. Assumes nothing.
+-- `room::put_number` meets its contract: the fewest digits are those with no zeros in front. Assumes nothing.
 use mathlib.Core.Path.{_∙_, ap}
 use mathlib.Core.List.{List}
 use Prim.Native.Nat.{ℕ}
-use Rattle.lines.specs.Room.{appended}
-use Rattle.lines.proofs.Numerals.{as-decimal}
+use Rattle.room.specs.Room.{appended}
+use Rattle.room.proofs.Numerals.{as-decimal}
 use borrow.Author.Needs.{needs}
-use Rattle.lines.proofs.output.put_number.Statement.{statement}
-use Rattle.lines.proofs.output.put_number.Tie as tie
+use Rattle.room.proofs.put_number.Statement.{statement}
+use Rattle.room.proofs.put_number.Tie as tie
 
 decimal-requires : tie.Need-decimal-requires
 decimal-requires c κs = search needs

@@ -1,14 +1,14 @@
--- `lines::output::put_signed` meets its contract: a minus where there is one, and the digits of the size behind it. Assumes nothing.
+-- `room::put_signed` meets its contract: a minus where there is one, and the digits of the size behind it. Assumes nothing.
 use mathlib.Core.Path.{_∙_, ap}
 use mathlib.Core.List.{List, [], _∷_}
 use Prim.Native.Nat.{ℕ}
-use Rattle.lines.specs.Decimal.{decimal}
-use Rattle.lines.specs.Room.{appended}
-use Rattle.lines.proofs.Filling.{twice}
-use Rattle.lines.proofs.Numerals.{with-no-sign, with-minus}
+use Rattle.room.specs.Decimal.{decimal}
+use Rattle.room.specs.Room.{appended}
+use Rattle.room.proofs.Filling.{twice}
+use Rattle.room.proofs.Numerals.{with-no-sign, with-minus}
 use borrow.Author.Needs.{needs}
-use Rattle.lines.proofs.output.put_signed.Statement.{statement}
-use Rattle.lines.proofs.output.put_signed.Tie as tie
+use Rattle.room.proofs.put_signed.Statement.{statement}
+use Rattle.room.proofs.put_signed.Tie as tie
 
 magnitude-requires : tie.Need-magnitude-requires
 magnitude-requires c κs = search needs

@@ -1,10 +1,11 @@
 // Lines that are written: bytes and numbers put behind others, into a room that the caller lends.
+// Writing itself stays in the programs: no contract can say what is written.
 ghost use mathlib.Core.Path.{_≡_};
 ghost use Prim.Native.Nat.{min};
 ghost use lib.ListN.{length, take};
 ghost use Rattle.io.specs.Counts.{Counts};
-ghost use Rattle.lines.specs.Decimal.{decimal, signedText};
-ghost use Rattle.lines.specs.Room.{appended};
+ghost use Rattle.room.specs.Decimal.{decimal, signedText};
+ghost use Rattle.room.specs.Room.{appended};
 
 // Puts bytes behind the first n, as far as there is room, and tells how many there are then.
 pub fn put(s: &[u8], n: usize, out: &mut [u8]) -> usize

@@ -15,7 +15,7 @@ use borrow.Author.Tests.{lt-ltb, le-ltb, leb-true, leb-false}
 use Rattle.text.proofs.Bools.{by-test}
 use Rattle.number.proofs.Ranges.{rd}
 use Rattle.io.specs.Digits.{glyph, digits, Fewest}
-use Rattle.lines.specs.Decimal.{decimalIn, decimal, signedText}
+use Rattle.room.specs.Decimal.{decimalIn, decimal, signedText}
 
 last : (n : ℕ) → glyph (n % 10) ≡ 48 + n % 10
 last n = rw (lt-ltb (n % 10) 10 (omega arith))

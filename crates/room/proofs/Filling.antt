@@ -10,7 +10,7 @@ use lib.ListN.{length, take, set}
 use lib.Seq.{take-all, take-length, take-at, take-suc-set, append-snoc, length-take-le}
 use borrow.Author.Tests.{leb-true, leb-false}
 use Rattle.text.proofs.Bools.{by-test}
-use Rattle.lines.specs.Room.{appended}
+use Rattle.room.specs.Room.{appended}
 
 module _ (out whole rest : List ℕ) (n : ℕ) where
   -- one byte more is put
