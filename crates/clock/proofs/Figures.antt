@@ -7,8 +7,8 @@ use native.Mathlib.Omega.{arith}
 use lib.Dec.{lit<}
 use lib.ListN.{length, getD}
 use Rattle.text.specs.Digits.{isDigit, digits}
-use Rattle.text.specs.Utf8.{ascii}
-use Rattle.text.proofs.Ascii.{ascii-nil, ascii-cons, ascii-digits}
+use Rattle.utf8.specs.Utf8.{ascii}
+use Rattle.utf8.proofs.Ascii.{ascii-nil, ascii-cons, ascii-digits}
 use Rattle.text.proofs.DigitLists.{digits-head, all-digits, last-digit}
 use Rattle.text.proofs.Places.{last-of}
 use Rattle.clock.specs.Grammar.{Figures, figures, Secfrac, no-fraction, fraction}

@@ -10,11 +10,11 @@ use Rattle.date.specs.Answer.{toHyphen, extendedYmd, shortDay, plainDay}
 use Rattle.clock.specs.Grammar.{noDigits}
 use Rattle.refusal.specs.Outcome.{Outcome, accepted, refused}
 use Rattle.text.specs.Digits.{digits, value, run}
-use Rattle.text.specs.Quoted.{bytes}
+use Rattle.utf8.specs.Quoted.{bytes}
 use Rattle.text.specs.Trim.{blanks, trimStart, trimEnd}
-use Rattle.text.specs.Utf8.{wellFormed}
+use Rattle.utf8.specs.Utf8.{wellFormed}
 use Rattle.text.proofs.Table.{Row, row, Readings}
-use Rattle.text.specs.WhiteSpace.{white1, white2, white3, whiteOf}
+use Rattle.white.specs.WhiteSpace.{white1, white2, white3, whiteOf}
 use Rattle.time.specs.Answer.{timeOfDay, timeNanos}
 use Rattle.stamp_text.specs.Answer.{dayOf, timeOf, plainMoment}
 use Rattle.clock.specs.Clock.{nanosOf}

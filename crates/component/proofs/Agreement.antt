@@ -13,15 +13,15 @@ use lib.ListN.{length, getD, take, drop, length-append, take-append-drop}
 use lib.Seq.{take-append-seam, drop-append-seam, drop-append-add, length-take-le}
 use borrow.Author.Tests.{ne-eqb}
 use Rattle.text.specs.Digits.{isDigit}
-use Rattle.text.specs.Utf8.{Utf8, nothing, utf8}
-use Rattle.text.specs.WhiteSpace.{White, whiteLen}
+use Rattle.utf8.specs.Utf8.{Utf8, nothing, utf8}
+use Rattle.white.specs.WhiteSpace.{White, whiteLen}
 use Rattle.text.proofs.Bools.{within-under, within-over}
-use Rattle.text.proofs.Utf8Agrees as Utf8Agrees
-use Rattle.text.proofs.WhiteAgrees.{found, measures}
+use Rattle.utf8.proofs.Utf8Agrees as Utf8Agrees
+use Rattle.white.proofs.WhiteAgrees.{found, measures}
 use Rattle.unit.specs.Units.{isUnit, wordLen}
 use Rattle.component.specs.Grammar.{Value, Amount, Component, component, Complete, glued, apart, Divides, bare, last, more}
 use Rattle.component.specs.Division.{amountLen, Step, bad, stop, go, endStep, unitStep, restStep, amountStep, step, before, then, divideBy, divide}
-use Rattle.text.proofs.Characters.{lead, white-some, white-utf8}
+use Rattle.white.proofs.Characters.{lead, white-some, white-utf8}
 use Rattle.unit.proofs.Spelling.{unit-letters, letters-utf8, Ends, at-end, at-white, unit-first, unit-not-white, word-run}
 use Rattle.unit.proofs.WordLaws.{Halts, word-is}
 use Rattle.component.proofs.AmountLaws.{Breaks, nothing-breaks, amount-run, amount-some, amount-utf8, Got, amount-is}

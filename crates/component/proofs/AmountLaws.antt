@@ -14,7 +14,7 @@ use lib.ListN.{length, getD, take, drop, length-append, take-append-drop}
 use lib.Seq.{take-append-seam, drop-append-seam, take-append-add, length-take-le, take-length, drop-length, take-add}
 use borrow.Author.Tests.{eqb-true, ne-eqb, ltb-true, lt-ltb}
 use Rattle.text.specs.Digits.{within, isDigit, digits, value, run}
-use Rattle.text.specs.Utf8.{Utf8}
+use Rattle.utf8.specs.Utf8.{Utf8}
 use Rattle.text.proofs.Bools.{and-left, and-right, by-test, within-yes, within-is}
 use Rattle.text.proofs.Runs.{run-all}
 use Rattle.text.proofs.Values.{ten-pos, value-below}
@@ -25,7 +25,7 @@ use Rattle.component.specs.Grammar.{Sign, no-sign, minus, wholeFits, Fra
 use Rattle.component.specs.Division.{negative, signLen, pointLen, digitsLen, amountLen}
 use Rattle.component.specs.Amount.{fracOf, unsignedOf, amountOf}
 use Rattle.component.specs.Read.{SameSign}
-use Rattle.text.proofs.Characters.{ascii-then}
+use Rattle.utf8.proofs.Ascii.{ascii-then}
 
 -- ---- digits
 

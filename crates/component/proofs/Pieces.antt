@@ -7,7 +7,7 @@ use Prim.Native.Nat.{ℕ, _+_, _-_, _≤_, _<_}
 use native.Mathlib.Omega.{arith}
 use lib.Dec.{eqb}
 use lib.ListN.{length, take, drop}
-use Rattle.text.specs.WhiteSpace.{whiteLen}
+use Rattle.white.specs.WhiteSpace.{whiteLen}
 use Rattle.unit.specs.Units.{unitOf, orElse, wordLen}
 use Rattle.unit.specs.Read.{wordEnd, wordOf, Followed}
 use Rattle.unit.specs.declared.IntervalUnit.{IntervalUnit}

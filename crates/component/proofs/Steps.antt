@@ -10,11 +10,11 @@ use lib.Dec.{eqb}
 use lib.ListN.{length, take, drop, length-append, length-drop, drop-of-length-le}
 use lib.Seq.{drop-drop}
 use Rattle.text.specs.Digits.{value, run}
-use Rattle.text.specs.WhiteSpace.{whiteLen}
+use Rattle.white.specs.WhiteSpace.{whiteLen}
 use Rattle.unit.specs.Units.{isUnit, wordLen}
 use Rattle.component.specs.Grammar.{wholeFits, Component, component}
 use Rattle.component.specs.Division.{negative, signLen, pointLen, digitsLen, amountLen, Step, bad, stop, go, endStep, unitStep, restStep, amountStep, step, before, then, divideBy, divide}
-use Rattle.text.proofs.Characters.{white-some}
+use Rattle.white.proofs.Characters.{white-some}
 use Rattle.component.proofs.Agreement.{StepIs, is-bad, is-stop, is-go, step-sound, computed, sound, agrees, rest-cons, end-cons}
 
 -- ---- the count of components does not matter

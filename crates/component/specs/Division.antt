@@ -8,7 +8,7 @@ use Prim.Native.Nat.{ℕ, zero, suc, _+_}
 use lib.Dec.{eqb, ltb}
 use lib.ListN.{length, getD, take, drop}
 use Rattle.text.specs.Digits.{within, value, run}
-use Rattle.text.specs.WhiteSpace.{whiteLen}
+use Rattle.white.specs.WhiteSpace.{whiteLen}
 use Rattle.component.specs.Grammar.{wholeFits, Component, component}
 use Rattle.unit.specs.Units.{isUnit, wordLen}
 

@@ -11,7 +11,7 @@ use Prim.Native.Nat.{ℕ, _-_, _*_, _^_, _≤_}
 use lib.IntN.{ℤ, pos}
 use lib.ListN.{length}
 use Rattle.text.specs.Digits.{value}
-use Rattle.text.specs.WhiteSpace.{White}
+use Rattle.white.specs.WhiteSpace.{White}
 use Rattle.number.specs.Decimal.{Digits}
 use Rattle.number.specs.Widths.{inSigned, signed}
 use Rattle.unit.specs.Units.{isUnit}

@@ -118,7 +118,7 @@ pub fn unsigned_at(text: &[u8], at: usize, from: usize, neg: bool) -> AmountRead
     let next = whole.next;
     match number::sign::signed_i64(neg, value) {
         Int64::Some(integer) => {
-            if text::white::byte_at(text, next) == b'.' {
+            if text::byte_at(text, next) == b'.' {
                 return fraction_at(text, at, next + 1, neg, integer);
             }
             if next == from {
@@ -135,7 +135,7 @@ pub fn amount_at(text: &[u8], at: usize) -> AmountRead
     requires { ⌜ at ≤ length (now text) ⌝ }
     ensures { λ r. ⌜ amountIs precision (now (text .entry)) at r ⌝ }
 {
-    let neg = text::white::byte_at(text, at) == b'-';
+    let neg = text::byte_at(text, at) == b'-';
     let from = if neg { at + 1 } else { at };
     unsigned_at(text, at, from, neg)
 }

@@ -25,7 +25,7 @@ use Rattle.refusal.specs.Outcome.{Outcome, accepted, refused, because, andThen,
 use Rattle.refusal.specs.declared.Refusal.{Refusal}
 use Rattle.refusal.specs.declared.Refusal.the-variants.{NotUtf8, Date, Separator, Time, Tail, Range, TimeOfDay, Interval, RepeatedUnit, Overflow, Narrowed, SiteStamp}
 use Rattle.text.specs.Trim.{trimmed}
-use Rattle.text.specs.Utf8.{utf8}
+use Rattle.utf8.specs.Utf8.{utf8}
 use Rattle.time.specs.Answer.{timeOfDay, timeNanos}
 use Rattle.time.specs.Answer as Times
 use Rattle.stamp_text.specs.Answer.{dayOf, Timed, timeOf, isEnding, isSeparator, onTime, onDate, plainMoment, inNanos, stampNanos}
@@ -33,7 +33,8 @@ use Rattle.stamp_text.specs.Meaning.{moment, instant}
 use Rattle.site.specs.Site.{isSite, siteNanos}
 use Rattle.refusal.proofs.Outcomes.{clash, same}
 use Rattle.unit.specs.Units.{unitNumbered}
-use Rattle.cullpethi.specs.Cells.{Told, inUnit}
+use Rattle.cells.specs.Cells.{Told}
+use Rattle.cullpethi.specs.DefaultUnit.{inUnit}
 use Rattle.cullpethi.specs.Calls.{Call, string-to-timestamp-nanos, string-to-time-nanoseconds, site-stamp, parse, interval-year-month, interval-day-time, interval-month-day-nano, interval-month-day-nano-config, CellsOf, answer, Accepts, accepts, OnList, on-list}
 
 -- an outcome whose number, where it is refused, is on the list

@@ -8,7 +8,7 @@ use Rattle.component.specs.Grammar.{precision}
 use Rattle.unit.specs.declared.IntervalUnit.{IntervalUnit}
 use Rattle.rule.specs.Contribution.{Counts}
 use Rattle.rule.specs.Answer.{monthDayNano}
-use Rattle.cullpethi.specs.Cells.{inUnit}
+use Rattle.cullpethi.specs.DefaultUnit.{inUnit}
 
 pub in-unit : {o : Outcome Counts} {u v : IntervalUnit} {m : Option IntervalUnit} (t : List ℕ)
     → o ≡ monthDayNano precision v t → v ≡ u → some u ≡ m → o ≡ inUnit m t

@@ -6,11 +6,11 @@ use Prim.Native.Nat.{ℕ}
 use Prim.Native.String.{String}
 use lib.IntN.{ℤ, pos, negℤ}
 use Rattle.text.specs.Digits.{digits, value, run}
-use Rattle.text.specs.Quoted.{bytes}
+use Rattle.utf8.specs.Quoted.{bytes}
 use Rattle.text.specs.Trim.{blanks, trimStart, trimEnd}
-use Rattle.text.specs.Utf8.{wellFormed}
+use Rattle.utf8.specs.Utf8.{wellFormed}
 use Rattle.text.proofs.Table.{Row, row, Readings}
-use Rattle.text.specs.WhiteSpace.{white1, white2, white3, whiteOf}
+use Rattle.white.specs.WhiteSpace.{white1, white2, white3, whiteOf}
 use Rattle.refusal.specs.Outcome.{Outcome, accepted, refused, andThen}
 use Rattle.calendar.specs.Calendar.{span, before as beforeMonth}
 use Rattle.clock.specs.Clock.{nanosOf}

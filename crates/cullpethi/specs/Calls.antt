@@ -13,7 +13,7 @@ use Rattle.time.specs.Answer.{timeNanos}
 use Rattle.stamp_text.specs.Answer.{stampNanos}
 use Rattle.site.specs.Site.{siteNanos}
 use Rattle.unit.specs.Units.{unitNumbered}
-use Rattle.cullpethi.specs.Cells.{inUnit}
+use Rattle.cullpethi.specs.DefaultUnit.{inUnit}
 
 -- the readers of document 01, "Delivered and not delivered"; the last has the number of a default unit
 pub data Call : Type 0 where

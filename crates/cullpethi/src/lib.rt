@@ -1,8 +1,8 @@
 // The C interface: each function returns 0 and writes its cells, or returns a refusal's number and writes nothing.
-use crate::cells::put_day_time;
-use crate::cells::put_interval;
-use crate::cells::put32;
-use crate::cells::put64;
+use cells::put_day_time;
+use cells::put_interval;
+use cells::put32;
+use cells::put64;
 use column::dates::Date32Type;
 use column::dates::Date64Type;
 use column::stamps::TimestampMicrosecondType;
@@ -32,9 +32,8 @@ ghost use Rattle.time.specs.Answer.{timeNanos};
 ghost use Rattle.stamp_text.specs.Answer.{stampNanos};
 ghost use Rattle.site.specs.Site.{siteNanos};
 ghost use Rattle.unit.specs.Units.{unitNumbered};
-ghost use Rattle.cullpethi.specs.Cells.{Told, inUnit};
-
-mod cells;
+ghost use Rattle.cells.specs.Cells.{Told};
+ghost use Rattle.cullpethi.specs.DefaultUnit.{inUnit};
 
 // A stamp, in nanoseconds since 1970-01-01.
 #[no_mangle]

@@ -4,8 +4,8 @@ use crate::READ;
 use crate::names::Reader;
 use crate::output;
 use crate::show::refusal;
-use lines::output::put;
 use refusal::Refusal;
+use room::put;
 
 pub fn version() -> u8 {
     told(output::written(16, b"cullpethi 0.1.0\n"))

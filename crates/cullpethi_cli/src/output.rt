@@ -1,6 +1,6 @@
 // What is written to standard output and to standard error.
 use crate::FAILED;
-use lines::output::put;
+use room::put;
 
 // Writes the first n bytes to standard output; where some of them are lost, says so.
 pub fn written(n: usize, out: &[u8]) -> bool {

@@ -4,13 +4,13 @@ use crate::READ;
 use crate::REFUSED;
 use crate::answer;
 use interval::DayTimeRead;
-use lines::output::put;
-use lines::output::put_number;
-use lines::output::put_signed;
-use lines::output::put_signed32;
 use refusal::Read32;
 use refusal::Read64;
 use refusal::Refusal;
+use room::put;
+use room::put_number;
+use room::put_signed;
+use room::put_signed32;
 use total::IntervalRead;
 
 // How many bytes there are, and the status.

@@ -19,8 +19,8 @@ use Rattle.number.specs.Decimal.{one-or-more, Numeral, plain, plus, minus, nume
 use Rattle.number.proofs.Agreement as Numerals
 use Rattle.refusal.specs.Outcome.{Outcome, accepted, refused, andThen}
 use Rattle.text.specs.Digits.{isDigit, worth, digits, value, twoDigits, twoAt}
-use Rattle.text.specs.Utf8.{utf8, ascii}
-use Rattle.text.proofs.Ascii.{ascii-nil, ascii-cons, ascii-append, ascii-digits, ascii-utf8}
+use Rattle.utf8.specs.Utf8.{utf8, ascii}
+use Rattle.utf8.proofs.Ascii.{ascii-nil, ascii-cons, ascii-append, ascii-digits, ascii-utf8}
 use Rattle.text.proofs.Bools.{and-left, and-right, and-false, or-cases, by-test}
 use Rattle.clock.specs.Grammar.{Figures, noDigits}
 use Rattle.refusal.proofs.Outcomes.{clash}

@@ -8,7 +8,7 @@ use lib.IntN.{ℤ}
 use borrow.Author.Tests.{le-leb, lt-leb}
 use Rattle.number.specs.Widths.{inSigned, fit}
 use Rattle.refusal.specs.Outcome.{Outcome, accepted, refused, andThen}
-use Rattle.text.specs.Utf8.{utf8}
+use Rattle.utf8.specs.Utf8.{utf8}
 use Rattle.text.proofs.Bools.{by-test}
 use Rattle.refusal.proofs.Outcomes.{orRange}
 use Rattle.stamp_text.specs.Answer.{datetime}

@@ -12,9 +12,9 @@ use lib.IntN.{ℤ}
 use borrow.Author.Tests.{eqb-true, leb-true, leb-false}
 use Rattle.number.specs.Widths.{inSigned}
 use Rattle.refusal.specs.Outcome.{Outcome, accepted, refused, inUtf8, andThen}
-use Rattle.text.specs.Utf8.{utf8}
+use Rattle.utf8.specs.Utf8.{utf8}
 use Rattle.text.proofs.Bools.{or-cases, by-test, fails, holds-not}
-use Rattle.text.proofs.Utf8Agrees as utf
+use Rattle.utf8.proofs.Utf8Agrees as utf
 use Rattle.refusal.proofs.Outcomes.{clash, same}
 use Rattle.stamp_text.specs.Answer.{inNanos, datetime, stampNanos}
 use Rattle.stamp_text.specs.Meaning.{Moment, instant, Refuses as StampRefuses, not-utf8 as st-not-utf8, no-date as st-no-date, no-separator, no-time, more-after, out-of-range as st-out-of-range}

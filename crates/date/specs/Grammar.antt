@@ -12,7 +12,7 @@ use Rattle.calendar.specs.Calendar.{civil}
 use Rattle.number.specs.Widths.{inSigned, inUnsigned}
 use Rattle.number.specs.Decimal.{Numeral}
 use Rattle.text.specs.Digits.{digits, value}
-use Rattle.text.specs.Utf8.{Utf8, utf8}
+use Rattle.utf8.specs.Utf8.{Utf8, utf8}
 use Rattle.clock.specs.Grammar.{Figures, noDigits}
 use Rattle.stamp_text.specs.Meaning.{Moment, Names, Refuses as StampRefuses}
 

@@ -7,8 +7,8 @@ use calendar::Day;
 use number::Int32;
 use refusal::Read32;
 use refusal::Refusal;
+use text::byte_at;
 use text::digits::digit;
-use text::white::byte_at;
 use timestamp::DateTime;
 ghost use mathlib.Core.Path.{_≡_};
 ghost use Prim.Native.Nat.{_-_};
@@ -66,7 +66,7 @@ fn of_day(s: &[u8], z: i64) -> Named
     if ends_in_digit(s) {
         return Named::Day(z);
     }
-    if text::utf8::is_utf8(s) {
+    if utf8::is_utf8(s) {
         Named::Day(z)
     } else {
         Named::Refused(Refusal::NotUtf8)

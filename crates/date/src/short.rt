@@ -1,9 +1,9 @@
 // The unsigned forms of at most 10 bytes: `20200101`, `2020-01-01`, `2020-1-1`.
 use calendar::Day;
+use text::byte_at;
 use text::digits::HYPHEN;
 use text::digits::digit;
 use text::digits::two;
-use text::white::byte_at;
 ghost use mathlib.Core.Path.{_≡_};
 ghost use Prim.Native.Nat.{_+_, _*_, _<_, _≤_};
 ghost use lib.ListN.{drop};

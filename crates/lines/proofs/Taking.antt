@@ -11,7 +11,7 @@ use borrow.Author.Tests.{leb-true, leb-false, lt-ltb, le-ltb}
 use Rattle.text.proofs.Bools.{by-test}
 use Rattle.lines.specs.declared.Taken.{Taken}
 use Rattle.lines.specs.Line.{before, taken}
-use Rattle.lines.specs.Room.{appended}
+use Rattle.room.specs.Room.{appended}
 
 -- the first bytes of the line, as many as are held: one more than there is room for tells no more of the room
 pub held-line : (held k : ℕ) (x old new : List ℕ) → length new ≡ length old → k ≡ length (take k new) → take k new ≡ appended held x old

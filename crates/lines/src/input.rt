@@ -1,12 +1,12 @@
 // Lines of an input that comes in pieces.
 use crate::Taken;
-use crate::output::put;
+use room::put;
 ghost use mathlib.Core.Path.{_≡_};
 ghost use Prim.Native.Nat.{suc, _+_, _≤_, _<_, min};
 ghost use lib.ListN.{length, take};
 ghost use Rattle.io.specs.Counts.{Counts};
 ghost use Rattle.lines.specs.Line.{before, taken};
-ghost use Rattle.lines.specs.Room.{appended};
+ghost use Rattle.room.specs.Room.{appended};
 
 // The place of the first such byte, or the end.
 pub fn find(s: &[u8], b: u8) -> usize

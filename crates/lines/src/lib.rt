@@ -1,9 +1,7 @@
-// Lines as the programs read and write them. Reading and writing themselves stay in the programs: no contract can say what is read or
-// written.
+// Lines as the programs read them. Reading itself stays in the programs: no contract can say what is read.
 pub mod escape;
 pub mod input;
 pub mod names;
-pub mod output;
 
 // What was taken of an input.
 pub struct Taken {

@@ -17,11 +17,11 @@ pub fn of(name: &[u8], text: &[u8]) {
 // What the readers stand on.
 fn ground(name: &[u8], text: &[u8]) {
     if check::same(name, b"utf8") {
-        show::yes_or_no(text::utf8::is_utf8(text));
+        show::yes_or_no(utf8::is_utf8(text));
         return;
     }
     if check::same(name, b"white") {
-        show::count(text::white::white_at(text, 0));
+        show::count(white::white_at(text, 0));
         return;
     }
     if check::same(name, b"trim") {

@@ -1,6 +1,6 @@
 // What is written: to standard output, with no line end.
-use lines::output::put_signed;
-use lines::output::put_signed32;
+use room::put_signed;
+use room::put_signed32;
 
 pub fn bytes(s: &[u8]) {
     io::write_all(1, s);

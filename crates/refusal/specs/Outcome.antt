@@ -4,7 +4,7 @@ use mathlib.Core.Bool.{cond}
 use mathlib.Core.List.{List}
 use Prim.Native.Nat.{ℕ}
 use lib.IntN.{ℤ}
-use Rattle.text.specs.Utf8.{utf8}
+use Rattle.utf8.specs.Utf8.{utf8}
 use Rattle.refusal.specs.declared.Read32.{Read32}
 use Rattle.refusal.specs.declared.Read32.the-variants.{Value as Value32, Refused as Refused32}
 use Rattle.refusal.specs.declared.Read64.{Read64}

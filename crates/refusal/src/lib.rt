@@ -66,7 +66,7 @@ impl Refusal {
     pub fn of(self, text: &[u8]) -> Refusal
         ensures { λ r. ⌜ numberOf r ≡ numberIn (now (text .entry)) (numberOf self) ⌝ }
     {
-        if text::utf8::is_utf8(text) {
+        if utf8::is_utf8(text) {
             self
         } else {
             Refusal::NotUtf8

@@ -1,12 +1,12 @@
 // Answers as they are stored: counts with commas between them, or `r` and the number of the refusal. Each function tells the length.
 use interval::DayTimeRead;
-use lines::output::put;
-use lines::output::put_number;
-use lines::output::put_signed;
-use lines::output::put_signed32;
 use refusal::Read32;
 use refusal::Read64;
 use refusal::Refusal;
+use room::put;
+use room::put_number;
+use room::put_signed;
+use room::put_signed32;
 use total::IntervalRead;
 ghost use Rattle.io.specs.Counts.{Counts};
 

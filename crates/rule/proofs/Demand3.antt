@@ -10,9 +10,9 @@ use lib.Dec.{eqb}
 use lib.IntN.{ℤ, pos, negsuc, negℤ, natAbs, _+ℤ_, _*ℤ_}
 use lib.Signed.{quotZ}
 use borrow.Author.Tests.{eqb-true, eq-eqb}
-use Rattle.text.specs.Utf8.{utf8}
+use Rattle.utf8.specs.Utf8.{utf8}
 use Rattle.text.proofs.Bools.{and-left, and-right, or-cases, both-ways, by-test}
-use Rattle.text.proofs.Utf8Agrees as Utf8Agrees
+use Rattle.utf8.proofs.Utf8Agrees as Utf8Agrees
 use Rattle.number.specs.Widths.{inSigned}
 use Rattle.number.proofs.Zed.{abs-neg, abs-zero, eq-of, P-neg, N-neg, mul-P, mul-N}
 use Rattle.refusal.specs.Outcome.{Outcome, accepted, refused}

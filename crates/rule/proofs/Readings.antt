@@ -6,10 +6,10 @@ use Prim.Native.Nat.{ℕ}
 use Prim.Native.String.{String}
 use lib.IntN.{ℤ, pos, negℤ}
 use Rattle.text.specs.Digits.{value, run}
-use Rattle.text.specs.Utf8.{encode, wellFormed}
-use Rattle.text.specs.WhiteSpace.{white1, white2, white3, whiteOf}
+use Rattle.utf8.specs.Utf8.{encode, wellFormed}
+use Rattle.white.specs.WhiteSpace.{white1, white2, white3, whiteOf}
 use Rattle.refusal.specs.Outcome.{Outcome, accepted, refused}
-use Rattle.text.specs.Quoted.{bytes}
+use Rattle.utf8.specs.Quoted.{bytes}
 use Rattle.text.proofs.Table.{Row, row, Readings}
 use Rattle.unit.specs.Units.{rank, spellings, same, oneOf, find, low, kelvin, lower, unitOf, present, isUnit, wordLen, orElse}
 use Rattle.component.specs.Grammar.{precision, wholeFits, scaled}

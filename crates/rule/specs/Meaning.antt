@@ -6,7 +6,7 @@ use mathlib.Core.Bool.{true}
 use mathlib.Core.List.{List, [], _∷_, _++_}
 use Prim.Native.Nat.{ℕ}
 use lib.IntN.{ℤ, pos, _+ℤ_, _*ℤ_}
-use Rattle.text.specs.Utf8.{Utf8}
+use Rattle.utf8.specs.Utf8.{Utf8}
 use Rattle.number.specs.Widths.{inSigned}
 use Rattle.refusal.specs.Outcome.{Outcome, accepted, refused}
 use Rattle.component.specs.Grammar.{Value, Amount, Component, Divides}

@@ -17,9 +17,9 @@ use Rattle.number.specs.Widths.{inSigned}
 use Rattle.refusal.specs.Outcome.{Outcome, accepted, refused, andThen}
 use Rattle.refusal.proofs.Outcomes.{clash}
 use Rattle.text.specs.Digits.{isDigit, value, twoDigits, twoAt}
-use Rattle.text.specs.Utf8.{utf8, ascii}
+use Rattle.utf8.specs.Utf8.{utf8, ascii}
 use Rattle.text.proofs.Bools.{or-cases, by-test}
-use Rattle.text.proofs.Ascii.{ascii-nil, ascii-cons, ascii-append, ascii-utf8}
+use Rattle.utf8.proofs.Ascii.{ascii-nil, ascii-cons, ascii-append, ascii-utf8}
 use Rattle.text.proofs.Logic.{both}
 use Rattle.clock.specs.Clock.{Clock, nanosOf, sinceMidnight}
 use Rattle.text.proofs.DigitLists.{two-value, four-value}

@@ -13,9 +13,9 @@ use lib.IntN.{ℤ}
 use borrow.Author.Tests.{ne-eqb, eqb-false}
 use Rattle.number.specs.Widths.{inSigned}
 use Rattle.refusal.specs.Outcome.{Outcome, accepted, refused, andThen}
-use Rattle.text.specs.Utf8.{Utf8, utf8}
+use Rattle.utf8.specs.Utf8.{Utf8, utf8}
 use Rattle.text.proofs.Bools.{by-test, fails, holds-not}
-use Rattle.text.proofs.Utf8Agrees as utf
+use Rattle.utf8.proofs.Utf8Agrees as utf
 use Rattle.refusal.proofs.Outcomes.{clash, same}
 use Rattle.text.proofs.Logic.{none-some}
 use Rattle.clock.specs.Clock.{Clock}

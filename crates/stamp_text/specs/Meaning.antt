@@ -12,7 +12,7 @@ use lib.IntN.{ℤ, pos, _+ℤ_, _*ℤ_}
 use Rattle.calendar.specs.Calendar.{civil}
 use Rattle.number.specs.Widths.{inSigned}
 use Rattle.text.specs.Digits.{isDigit, digits, value}
-use Rattle.text.specs.Utf8.{Utf8}
+use Rattle.utf8.specs.Utf8.{Utf8}
 use Rattle.clock.specs.Clock.{Clock, clock, inRange, sinceMidnight}
 use Rattle.clock.specs.Grammar.{Figures, Secfrac, noDigits}
 use Rattle.stamp_text.specs.Grammar.{Ymd, FullDate, Separator, Ending, Stamp}

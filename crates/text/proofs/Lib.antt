@@ -5,14 +5,8 @@ pub mod DigitLaws
 pub mod Parts
 pub mod Runs
 pub mod Values
-pub mod Utf8Rows
-pub mod Utf8Steps
-pub mod Utf8Agrees
-pub mod WhiteAgrees
-pub mod Characters
 pub mod TrimLaws
 pub mod TrimAgrees
-pub mod Ascii
 pub mod TwoDigits
 pub mod Logic
 pub mod Places

@@ -1,12 +1,13 @@
-// The text under every reader: bytes, their digits, UTF-8, white space.
+// The text under every reader: bytes, their digits, and trimming.
+ghost use mathlib.Core.Path.{_≡_};
+ghost use lib.ListN.{getD};
+
 pub mod digits;
 pub mod trim;
-pub mod utf8;
-pub mod white;
 
-// The bytes of a character still to come: how many, and the range of the next; the later ones are 80 to BF.
-pub struct Follow {
-    pub count: u8,
-    pub low: u8,
-    pub high: u8,
+// The byte at i, and 0 past the end.
+pub fn byte_at(s: &[u8], i: usize) -> u8
+    ensures { λ r. ⌜ r ≡ getD (now (s .entry)) i 0 ⌝ }
+{
+    if i < s.len() { s[i] } else { 0 }
 }

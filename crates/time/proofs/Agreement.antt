@@ -14,10 +14,10 @@ use lib.IntN.{ℤ, pos}
 use borrow.Author.Tests.{eqb-true, le-leb, leb-true, le-ltb, ltb-false}
 use Rattle.refusal.specs.Outcome.{Outcome, accepted, refused}
 use Rattle.text.specs.Digits.{isDigit, worth, digits, value, twoDigits}
-use Rattle.text.specs.Utf8.{utf8, ascii}
+use Rattle.utf8.specs.Utf8.{utf8, ascii}
 use Rattle.text.proofs.Bools.{and-left, and-right, and-false, or-cases, by-test, fails, holds-not}
-use Rattle.text.proofs.Utf8Agrees as utf
-use Rattle.text.proofs.Ascii.{ascii-nil, ascii-cons, ascii-append, ascii-utf8}
+use Rattle.utf8.proofs.Utf8Agrees as utf
+use Rattle.utf8.proofs.Ascii.{ascii-nil, ascii-cons, ascii-append, ascii-utf8}
 use Rattle.clock.specs.Clock.{Clock, clock, inRange, nanosOf, sinceMidnight}
 use Rattle.clock.specs.Grammar.{Figures, Secfrac, no-fraction, fraction}
 use Rattle.refusal.proofs.Outcomes.{clash, same}

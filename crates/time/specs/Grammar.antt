@@ -7,7 +7,7 @@ use mathlib.Core.List.{List, [], _∷_, _++_}
 use Prim.Native.Nat.{ℕ, _+_, _%_, _≤_}
 use lib.IntN.{ℤ, pos}
 use Rattle.text.specs.Digits.{value}
-use Rattle.text.specs.Utf8.{Utf8}
+use Rattle.utf8.specs.Utf8.{Utf8}
 use Rattle.clock.specs.Clock.{Clock, clock, inRange, sinceMidnight}
 use Rattle.clock.specs.Grammar.{Figures, Secfrac}
 

@@ -2,12 +2,12 @@
 use crate::TimeAndEnd;
 use calendar::Day;
 use clock::Time;
+use text::byte_at;
 use text::digits::COLON;
 use text::digits::HYPHEN;
 use text::digits::POINT;
 use text::digits::digit;
 use text::digits::two;
-use text::white::byte_at;
 ghost use mathlib.Core.Path.{_≡_};
 ghost use Prim.Native.Nat.{_+_, _≤_, _<_};
 ghost use lib.ListN.{length, drop};

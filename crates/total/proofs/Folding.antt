@@ -14,7 +14,7 @@ use mir.Syntax.{w64}
 use mir.Val.{SFits}
 use mir.Facts.{toZ-ofZ}
 use borrow.Author.Tests.{eqb-true, eqb-false}
-use Rattle.text.specs.Utf8.{utf8}
+use Rattle.utf8.specs.Utf8.{utf8}
 use Rattle.text.proofs.Bools.{by-test}
 use Rattle.number.proofs.Ranges.{rd}
 use Rattle.refusal.specs.Outcome.{Outcome, refused, numberIn}

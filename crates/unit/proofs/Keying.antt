@@ -14,7 +14,7 @@ use types.Run.{OneOf}
 use borrow.Author.Tests.{eqb-true, eq-eqb, ne-eqb, ltb-true}
 use Rattle.text.specs.Digits.{within}
 use Rattle.text.proofs.Bools.{and-left, and-right, both-ways, by-test, within-is}
-use Rattle.text.specs.Quoted.{bytes}
+use Rattle.utf8.specs.Quoted.{bytes}
 use Rattle.unit.specs.Units.{rank, Row, row, spellings, same, oneOf, find, lower, unitOf, present, isUnit}
 use Rattle.unit.specs.Keys.{lowered, keyOn, keyOf, keyIn, byKey}
 use Rattle.unit.specs.declared.IntervalUnit.{IntervalUnit}

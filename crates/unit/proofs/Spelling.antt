@@ -13,12 +13,13 @@ use lib.ListN.{length, getD, drop, drop-of-length-le}
 use lib.Seq.{drop-cons}
 use borrow.Author.Tests.{eqb-true, ne-eqb}
 use Rattle.text.specs.Digits.{within}
-use Rattle.text.specs.Utf8.{Utf8, scalar-then}
-use Rattle.text.specs.WhiteSpace.{White, white1, white2, white3, whiteOf, whiteLen}
+use Rattle.utf8.specs.Utf8.{Utf8, scalar-then}
+use Rattle.white.specs.WhiteSpace.{White, white1, white2, white3, whiteOf, whiteLen}
 use Rattle.text.proofs.Bools.{and-left, and-right, or-cases, both-ways, by-test, within-is}
-use Rattle.text.proofs.Characters.{white-some, not-white, ascii-then}
-use Rattle.text.proofs.WhiteAgrees.{measures}
-use Rattle.text.specs.Quoted.{bytes}
+use Rattle.utf8.proofs.Ascii.{ascii-then}
+use Rattle.white.proofs.Characters.{white-some, not-white}
+use Rattle.white.proofs.WhiteAgrees.{measures}
+use Rattle.utf8.specs.Quoted.{bytes}
 use Rattle.unit.specs.Units.{Row, row, spellings, same, oneOf, find, low, kelvin, lower, unitOf, present, isUnit, wordLen}
 use Rattle.unit.specs.Keys.{lowered}
 use Rattle.unit.specs.declared.IntervalUnit.{IntervalUnit}

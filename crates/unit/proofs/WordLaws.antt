@@ -9,7 +9,7 @@ use lib.Dec.{eqb, leb}
 use lib.ListN.{length, take, drop, length-drop, take-append-drop, drop-of-length-le}
 use lib.Seq.{drop-drop, take-add, length-take-le}
 use borrow.Author.Tests.{eqb-true, eqb-false, leb-true, leb-false}
-use Rattle.text.specs.WhiteSpace.{whiteLen}
+use Rattle.white.specs.WhiteSpace.{whiteLen}
 use Rattle.text.proofs.Bools.{by-test}
 use Rattle.unit.specs.Units.{spellings, same, oneOf, find, lower, unitOf, wordLen}
 use Rattle.unit.specs.Keys.{byKey, LettersIs}

@@ -9,7 +9,7 @@ use Prim.Native.String.{String}
 use lib.Dec.{eqb}
 use lib.ListN.{length, take, drop}
 use Rattle.text.specs.Digits.{within}
-use Rattle.text.specs.Quoted.{bytes}
+use Rattle.utf8.specs.Quoted.{bytes}
 use Rattle.unit.specs.Units.{Row, row, low, kelvin, lower, unitOf}
 use Rattle.unit.specs.declared.IntervalUnit.{IntervalUnit}
 use Rattle.unit.specs.declared.letters.Letter.{Letter}

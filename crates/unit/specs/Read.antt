@@ -4,7 +4,7 @@ use mathlib.Core.List.{List}
 use mathlib.Core.Option.{Option, none, some}
 use Prim.Native.Nat.{ℕ, _+_, _≤_, _<_}
 use lib.ListN.{length, take, drop}
-use Rattle.text.specs.WhiteSpace.{whiteLen}
+use Rattle.white.specs.WhiteSpace.{whiteLen}
 use Rattle.unit.specs.Units.{unitOf, wordLen}
 use Rattle.unit.specs.declared.IntervalUnit.{IntervalUnit}
 use Rattle.unit.specs.declared.UnitRead.{UnitRead}

@@ -8,8 +8,8 @@ use Prim.Native.Nat.{ℕ, zero, suc, _+_}
 use Prim.Native.String.{String}
 use lib.Dec.{eqb}
 use Rattle.text.specs.Digits.{within}
-use Rattle.text.specs.Quoted.{bytes}
-use Rattle.text.specs.WhiteSpace.{whiteLen}
+use Rattle.utf8.specs.Quoted.{bytes}
+use Rattle.white.specs.WhiteSpace.{whiteLen}
 use Rattle.unit.specs.declared.IntervalUnit.{IntervalUnit}
 use Rattle.unit.specs.declared.IntervalUnit.the-variants.{Century, Decade, Year, Month, Week, Day, Hour, Minute, Second, Millisecond, Microsecond, Nanosecond}
 

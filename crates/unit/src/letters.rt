@@ -41,8 +41,8 @@ pub fn letter_at(text: &[u8], i: usize) -> Letter
     if b != 0xE2 {
         return Letter { code: 0, width: 1 };
     }
-    let c = text::white::byte_at(text, i + 1);
-    let d = text::white::byte_at(text, i + 2);
+    let c = text::byte_at(text, i + 1);
+    let d = text::byte_at(text, i + 2);
     if (c == 0x84) & (d == 0xAA) {
         return Letter { code: 11, width: 3 };
     }

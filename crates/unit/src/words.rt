@@ -6,7 +6,7 @@ use crate::letters;
 ghost use mathlib.Core.Path.{_≡_};
 ghost use Prim.Native.Nat.{_-_, _≤_};
 ghost use lib.ListN.{length, drop};
-ghost use Rattle.text.specs.WhiteSpace.{whiteLen};
+ghost use Rattle.white.specs.WhiteSpace.{whiteLen};
 ghost use Rattle.unit.specs.Units.{unitOf};
 ghost use Rattle.unit.specs.Read.{unitRead, wordIs};
 
@@ -28,10 +28,10 @@ impl IntervalUnit {
 pub fn white_len(text: &[u8], at: usize) -> usize
     ensures { λ r. ⌜ (r ≡ whiteLen (drop at (now (text .entry)))) × (r ≤ length (now (text .entry)) - at) ⌝ }
 {
-    if text::white::byte_at(text, at) == b' ' {
+    if text::byte_at(text, at) == b' ' {
         return 1;
     }
-    text::white::white_at(text, at)
+    white::white_at(text, at)
 }
 
 // The unit of the word at a place: letters, behind which white space must follow, or nothing.

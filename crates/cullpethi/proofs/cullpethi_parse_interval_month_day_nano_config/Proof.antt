@@ -4,9 +4,9 @@ use mathlib.Core.Option.{Option}
 use Rattle.unit.specs.Read.{unitRead}
 use Rattle.unit.specs.declared.IntervalUnit.{IntervalUnit}
 use Rattle.rule.specs.Contribution.{counts}
-use Rattle.cullpethi.specs.Cells.{inUnit}
+use Rattle.cullpethi.specs.DefaultUnit.{inUnit}
 use Rattle.cullpethi.proofs.Numbering.{in-unit}
-use Rattle.cullpethi.proofs.Telling.{kept}
+use Rattle.cells.proofs.Telling.{kept}
 use borrow.Author.Needs.{needs}
 use Rattle.cullpethi.proofs.cullpethi_parse_interval_month_day_nano_config.Statement.{statement}
 use Rattle.cullpethi.proofs.cullpethi_parse_interval_month_day_nano_config.Tie as tie

@@ -6,7 +6,7 @@ use native.Mathlib.Omega.{arith}
 use lib.ListN.{length, take, drop, length-set}
 use lib.Seq.{length-take-le}
 use Rattle.lines.specs.Escape.{unescaped}
-use Rattle.lines.proofs.Filling.{one-more, full, all}
+use Rattle.room.proofs.Filling.{one-more, full, all}
 use Rattle.lines.proofs.Escapes.{at-end}
 use borrow.Author.Needs.{needs}
 use Rattle.lines.proofs.escape.unescape.Statement.{statement}

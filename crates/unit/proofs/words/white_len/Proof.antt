@@ -1,6 +1,6 @@
 -- `unit::words::white_len` meets its contract: a space is white space of one byte. Assumes nothing.
 use borrow.Author.Needs.{needs}
-use Rattle.text.proofs.Characters.{space-here}
+use Rattle.white.proofs.Characters.{space-here}
 use Rattle.unit.proofs.words.white_len.Statement.{statement}
 use Rattle.unit.proofs.words.white_len.Tie as tie
 

@@ -1,0 +1,3 @@
+-- What the contracts of `room` cite.
+pub mod Room
+pub mod Decimal
