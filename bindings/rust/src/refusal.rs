@@ -25,27 +25,27 @@ use std::fmt;
 pub enum Refusal {
     /// The bytes are not well-formed UTF-8: `b"\xFF"`.
     NotUtf8 = 1,
-    /// There is no date where one must stand, or it is no day of the calendar, or a stamp has fewer than 10 bytes: `1970-02-30`.
+    /// No date: no shape of one, no day of the calendar, or a stamp of fewer than 10 bytes: `1970-02-30`.
     Date = 2,
-    /// The byte behind a stamp's date is not T, t or a space: `1970-01-01_00:00:00`.
+    /// Byte 10 of a longer stamp is not T, t or a space: `1970-01-01_00:00:00`.
     Separator = 3,
-    /// A stamp has no time behind its separator, or a field of it is out of range: `1970-01-01T24:00:00`.
+    /// No time part of a stamp, or a field of it is out of range: `1970-01-01T24:00:00`.
     Time = 4,
-    /// Behind a stamp's time there is something else than a single final Z or z, as an offset: `1970-01-01T00:00:00+01:00`.
+    /// Bytes remain after the time that are not a single final z or Z: `1970-01-01T00:00:00+01:00`.
     Tail = 5,
-    /// The nanoseconds of a stamp do not fit 64 bits, or the day number of a signed date does not fit 32: `2263-01-01`.
+    /// The nanoseconds do not fit 64 signed bits, or the day number does not fit 32: `2263-01-01`.
     Range = 6,
-    /// The text is no time of day and, for a time column, no integer of its width: `24:00`.
+    /// A time-of-day text is neither a time nor, for a time column, an integer of its width: `24:00`.
     TimeOfDay = 7,
-    /// The text is no interval, that is, no list of amounts with their units: `1  day`, with two spaces.
+    /// An interval text has no division: `1  day`, with two spaces.
     Interval = 8,
-    /// The text is an interval in which a unit comes twice, in whatever spellings: `1 day 1 d`.
+    /// A unit comes twice: `1 day 1 d`.
     RepeatedUnit = 9,
-    /// An amount of the interval, or what it adds up to so far, does not fit: `2147483648 months`.
+    /// A contribution or a running total does not fit: `2147483648 months`.
     Overflow = 10,
-    /// The interval is read, but the form that was asked for cannot hold it: `1 day` in months.
+    /// The narrowed interval form cannot hold the result: `1 day` in months.
     Narrowed = 11,
-    /// The text is a stamp, but none in the form of a site stamp: `1970-01-01 00:00:00Z`.
+    /// The plain stamp reader accepts the text, but it is no site stamp: `1970-01-01 00:00:00Z`.
     SiteStamp = 12,
 }
 
@@ -87,18 +87,18 @@ impl Refusal {
 impl fmt::Display for Refusal {
     fn fmt(&self, f: &mut fmt::Formatter<'_>) -> fmt::Result {
         f.write_str(match self {
-            Refusal::NotUtf8 => "the text is not well-formed UTF-8",
-            Refusal::Date => "the text has no date of the calendar where one must stand",
-            Refusal::Separator => "the byte after the date is not T, t or a space",
-            Refusal::Time => "the stamp has no time, or a field of it is out of range",
-            Refusal::Tail => "bytes remain after the time that are not a single final Z",
-            Refusal::Range => "the value does not fit the width of the result",
-            Refusal::TimeOfDay => "the text is no time of day",
-            Refusal::Interval => "the text is no interval",
-            Refusal::RepeatedUnit => "a unit comes twice in the interval",
-            Refusal::Overflow => "an amount or a sum of the interval does not fit",
-            Refusal::Narrowed => "the form of interval that was asked for cannot hold this one",
-            Refusal::SiteStamp => "the text is a stamp, but no site stamp",
+            Refusal::NotUtf8 => "the bytes are not well-formed UTF-8",
+            Refusal::Date => "no date: no shape of one, no day of the calendar, or a stamp of fewer than 10 bytes",
+            Refusal::Separator => "byte 10 of a longer stamp is not T, t or a space",
+            Refusal::Time => "no time part of a stamp, or a field of it is out of range",
+            Refusal::Tail => "bytes remain after the time that are not a single final z or Z",
+            Refusal::Range => "the nanoseconds do not fit 64 signed bits, or the day number does not fit 32",
+            Refusal::TimeOfDay => "a time-of-day text is neither a time nor, for a time column, an integer of its width",
+            Refusal::Interval => "an interval text has no division",
+            Refusal::RepeatedUnit => "a unit comes twice",
+            Refusal::Overflow => "a contribution or a running total does not fit",
+            Refusal::Narrowed => "the narrowed interval form cannot hold the result",
+            Refusal::SiteStamp => "the plain stamp reader accepts the text, but it is no site stamp",
         })
     }
 }

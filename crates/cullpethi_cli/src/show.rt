@@ -145,17 +145,41 @@ pub fn refusal(why: Refusal, n: usize, out: &mut [u8]) -> usize {
     let number = put_number(why.number() as u64, n, out);
     let n = put(b": ", number, out);
     match why {
-        Refusal::NotUtf8 => put(b"not UTF-8", n, out),
-        Refusal::Date => put(b"no date of the calendar", n, out),
-        Refusal::Separator => put(b"no T, t or space behind the date", n, out),
-        Refusal::Time => put(b"no time, or one out of range", n, out),
-        Refusal::Tail => put(b"more behind the time than a single z or Z", n, out),
-        Refusal::Range => put(b"nanoseconds beyond 64 bits or days beyond 32", n, out),
-        Refusal::TimeOfDay => put(b"no time of day", n, out),
-        Refusal::Interval => put(b"no interval", n, out),
+        Refusal::NotUtf8 => put(b"the bytes are not well-formed UTF-8", n, out),
+        Refusal::Date => put(
+            b"no date: no shape of one, no day of the calendar, or a stamp of fewer than 10 bytes",
+            n,
+            out,
+        ),
+        Refusal::Separator => put(b"byte 10 of a longer stamp is not T, t or a space", n, out),
+        Refusal::Time => put(
+            b"no time part of a stamp, or a field of it is out of range",
+            n,
+            out,
+        ),
+        Refusal::Tail => put(
+            b"bytes remain after the time that are not a single final z or Z",
+            n,
+            out,
+        ),
+        Refusal::Range => put(
+            b"the nanoseconds do not fit 64 signed bits, or the day number does not fit 32",
+            n,
+            out,
+        ),
+        Refusal::TimeOfDay => put(
+            b"a time-of-day text is neither a time nor, for a time column, an integer of its width",
+            n,
+            out,
+        ),
+        Refusal::Interval => put(b"an interval text has no division", n, out),
         Refusal::RepeatedUnit => put(b"a unit comes twice", n, out),
         Refusal::Overflow => put(b"a contribution or a running total does not fit", n, out),
-        Refusal::Narrowed => put(b"this form of interval cannot hold the result", n, out),
-        Refusal::SiteStamp => put(b"a stamp, but no site stamp", n, out),
+        Refusal::Narrowed => put(b"the narrowed interval form cannot hold the result", n, out),
+        Refusal::SiteStamp => put(
+            b"the plain stamp reader accepts the text, but it is no site stamp",
+            n,
+            out,
+        ),
     }
 }
