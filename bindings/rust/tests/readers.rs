@@ -235,5 +235,8 @@ fn refusals() {
         assert_eq!(usize::from(refusal.number()), i + 1);
     }
     let error: Box<dyn std::error::Error> = Box::new(Refusal::SiteStamp);
-    assert_eq!(error.to_string(), "the text is a stamp, but no site stamp");
+    assert_eq!(
+        error.to_string(),
+        "the plain stamp reader accepts the text, but it is no site stamp"
+    );
 }
