@@ -10,30 +10,33 @@ use native.Mathlib.Omega.{arith}
 use lib.Dec.{leb}
 use lib.ListN.{length}
 use lib.IntN.{ℤ, pos, _*ℤ_}
-use lib.Signed.{mag, quotZ}
+use lib.Signed.{mag}
 use borrow.Author.Tests.{lt-ltb, le-leb, lt-leb, leb-true, leb-false}
 use Rattle.date.specs.Answer.{dayNamed, inDays, dateDays}
 use Rattle.date.proofs.Agreement as Dates
 use Rattle.date.proofs.Bounds.{short-most}
 use Rattle.date.proofs.Refusals.{stamps, before-6}
 use Rattle.date.proofs.Refusals as DateRefusals
+use Rattle.date_column.specs.Answer.{millis, date64}
 use Rattle.number.specs.Decimal.{numeral}
-use Rattle.number.specs.Widths.{inType, inSigned, floor, keep}
+use Rattle.number.specs.Widths.{inType, floor, keep}
 use Rattle.number.proofs.Agreement as Numerals
+use Rattle.number.proofs.Zed.{near}
+use Rattle.refusal.specs.Attempts.{orElse, divided}
 use Rattle.refusal.specs.Outcome.{Outcome, accepted, refused, andThen}
-use Rattle.refusal.proofs.Outcomes.{clash, same}
+use Rattle.refusal.proofs.Outcomes.{clash, same, or-else, neither, in-turn, divided-back, still-refused, over-else}
 use Rattle.text.specs.Trim.{trimmed}
 use Rattle.text.proofs.Bools.{by-test, both-ways}
 use Rattle.text.proofs.TrimAgrees as Trims
 use Rattle.time.specs.Answer.{timeNanos}
 use Rattle.time.proofs.Agreement as Times
+use Rattle.time_column.specs.Answer.{onInteger, asInteger, timeColumn}
 use Rattle.stamp_text.specs.Answer.{datetime, stampNanos}
 use Rattle.stamp_text.specs.Meaning.{Moment, instant}
 use Rattle.stamp_text.proofs.Agreement as Stamps
 use Rattle.stamp_text.proofs.Refusals as StampRefusals
-use Rattle.column.specs.Columns.{Column, TimestampNanosecond, TimestampMicrosecond, TimestampMillisecond, TimestampSecond, Time64Nanosecond, Time64Microsecond, Time32Millisecond, Time32Second, Date32, Date64, orElse, divided, onInteger, asInteger, millis, date64, timeColumn, column}
+use Rattle.column.specs.Columns.{Column, TimestampNanosecond, TimestampMicrosecond, TimestampMillisecond, TimestampSecond, Time64Nanosecond, Time64Microsecond, Time32Millisecond, Time32Second, Date32, Date64, column}
 use Rattle.column.specs.Meaning.{TimestampColumn, nanoseconds, microseconds, milliseconds, seconds, TimeColumn, nanoseconds-64, microseconds-64, milliseconds-32, seconds-32, ReaderReads, of-stamp, of-time, of-date, up-to-ten, beyond-ten, ReaderRefuses, no-stamp, no-time, no-date, no-date-up-to-ten, no-stamp-beyond-ten, ReadsGiven, by-reader, as-integer, Reads, as-given, once-trimmed, Refuses, never-trimmed, trimmed-too}
-use Rattle.column.proofs.Millis.{near}
 
 -- ---- the four kinds of columns
 
@@ -80,15 +83,6 @@ time-reader nanoseconds-64 t = refl
 time-reader microseconds-64 t = refl
 time-reader milliseconds-32 t = refl
 time-reader seconds-32 t = refl
-
--- an outcome that is divided
-divided-back : (X : ℤ → Type 0) (k : ℕ) (o : Outcome ℤ) (z : ℤ) → divided k o ≡ accepted z → ((y : ℤ) → o ≡ accepted y → X (quotZ y (pos k))) → X z
-divided-back X k (accepted y) z e f = let q : quotZ y (pos k) ≡ z = cc in rw (← q) (f y refl)
-divided-back X k (refused n) z e f = clash e
-
-still-refused : (k : ℕ) (o : Outcome ℤ) (n : ℕ) → divided k o ≡ refused n → o ≡ refused n
-still-refused k (accepted y) n e = clash (sym e)
-still-refused k (refused m) n e = let q : m ≡ n = same e in rw q
 
 -- a date of at most 10 bytes has a day number that fits 32 bits
 short-day : (t : List ℕ) → length t ≤ 10 → dateDays t ≡ dayNamed t
@@ -197,15 +191,6 @@ reader-first t (a-time s) z e = time-given s t ∙ rw e
 reader-first t date-32 z e = e
 reader-first t date-64 z e = e
 
--- where one of two outcomes is accepted, and where neither is
-or-else : {X : Type 0} (o p : Outcome ℤ) (z : ℤ) → orElse o p ≡ accepted z → (o ≡ accepted z → X) → ((n : ℕ) → o ≡ refused n → p ≡ accepted z → X) → X
-or-else (accepted y) p z e f g = f e
-or-else (refused n) p z e f g = g n refl e
-
-neither : {X : Type 0} (o p : Outcome ℤ) (n : ℕ) → orElse o p ≡ refused n → ((m : ℕ) → o ≡ refused m → p ≡ refused n → X) → X
-neither (accepted y) p n e f = clash (sym e)
-neither (refused m) p n e f = f m refl e
-
 -- an integer of the width
 integer-is : (bits : ℕ) (o : Option ℤ) (z : ℤ) → onInteger (keep (inType true bits) o) ≡ accepted z → (o ≡ some z) × (inType true bits z ≡ true)
 integer-is bits none z e = clash e
@@ -270,14 +255,6 @@ either-way Time32Millisecond = inr (other refl)
 either-way Time32Second = inr (other refl)
 either-way Date32 = inr (other refl)
 either-way Date64 = inl refl
-
-over-else : (k : ℕ) (o p : Outcome ℤ) → divided k (orElse o p) ≡ orElse (divided k o) (divided k p)
-over-else k (accepted z) p = refl
-over-else k (refused n) p = refl
-
-in-turn : (o p q : Outcome ℤ) → orElse o (orElse p q) ≡ orElse (orElse o p) q
-in-turn (accepted z) p q = refl
-in-turn (refused n) p q = refl
 
 module _ (t : List ℕ) where
   stamps-trimmed : (k : ℕ) → divided k (orElse (stampNanos t) (stampNanos (trimmed t))) ≡ orElse (divided k (stampNanos t)) (divided k (stampNanos (trimmed t)))

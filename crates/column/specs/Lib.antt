@@ -1,5 +1,4 @@
--- What a reviewer must believe: what a column reads and why it refuses, as a computation and as relations.
+-- What a reviewer must believe: what a column reads and why it refuses, as a computation and as relations. No definition is a private
+-- helper's alone.
 pub mod Columns
 pub mod Meaning
--- What private functions find; no contract of a public one cites it.
-pub mod Found

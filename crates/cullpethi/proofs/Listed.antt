@@ -11,16 +11,18 @@ use lib.Dec.{leb, eqb, lit≤}
 use lib.ListN.{length, getD, drop}
 use lib.IntN.{ℤ, pos, _*ℤ_}
 use lib.Signed.{quotZ}
-use Rattle.column.specs.Columns.{Column, TimestampNanosecond, TimestampMicrosecond, TimestampMillisecond, TimestampSecond, Time64Nanosecond, Time64Microsecond, Time32Millisecond, Time32Second, Date32, Date64, orElse, divided, timestampColumn, onInteger, timeColumn, millis, column}
+use Rattle.column.specs.Columns.{Column, TimestampNanosecond, TimestampMicrosecond, TimestampMillisecond, TimestampSecond, Time64Nanosecond, Time64Microsecond, Time32Millisecond, Time32Second, Date32, Date64, column}
 use Rattle.component.specs.Division.{divide}
 use Rattle.component.specs.Grammar.{Component, precision}
 use Rattle.unit.specs.declared.IntervalUnit.{IntervalUnit}
 use Rattle.unit.specs.declared.IntervalUnit.the-variants.{Year, Month, Day}
 use Rattle.date.specs.Answer.{isSign, onDay, signedDay, shortDay, plainDay, dayNamed, inDays, dateDays}
+use Rattle.date_column.specs.Answer.{millis}
 use Rattle.rule.specs.Answer.{totals, twice, onTotals, onDivision, monthDayNano, toYearMonths, toDayTime, orNarrowed, narrowed, yearMonth, dayTime, plainMonthDayNano}
 use Rattle.rule.specs.Contribution.{Counts, zeros}
 use Rattle.number.specs.Decimal.{integer}
 use Rattle.number.specs.Widths.{inSigned, floor}
+use Rattle.refusal.specs.Attempts.{orElse, divided}
 use Rattle.refusal.specs.Outcome.{Outcome, accepted, refused, because, andThen, inUtf8}
 use Rattle.refusal.specs.declared.Refusal.{Refusal}
 use Rattle.refusal.specs.declared.Refusal.the-variants.{NotUtf8, Date, Separator, Time, Tail, Range, TimeOfDay, Interval, RepeatedUnit, Overflow, Narrowed, SiteStamp}
@@ -31,6 +33,8 @@ use Rattle.time.specs.Answer as Times
 use Rattle.stamp_text.specs.Answer.{dayOf, Timed, timeOf, isEnding, isSeparator, onTime, onDate, plainMoment, inNanos, stampNanos}
 use Rattle.stamp_text.specs.Meaning.{moment, instant}
 use Rattle.site.specs.Site.{isSite, siteNanos}
+use Rattle.stamp_column.specs.Answer.{timestampColumn}
+use Rattle.time_column.specs.Answer.{onInteger, timeColumn}
 use Rattle.refusal.proofs.Outcomes.{clash, same}
 use Rattle.unit.specs.Units.{unitNumbered}
 use Rattle.cells.specs.Cells.{Told}

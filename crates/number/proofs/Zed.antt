@@ -108,6 +108,12 @@ pub of-mag : (z : ℤ) {m : ℕ} → (P z < N z + m) → (N z ≤ P z + m) → m
 of-mag (pos n) h k = omega arith
 of-mag (negsuc n) h k = omega arith
 
+-- a number within b of zero
+pub near : (z : ℤ) (b : ℕ) → (P z ≤ N z + b) × (N z ≤ P z + b) → mag z ≤ b
+near z b h =
+    let l : mag z < b + 1 = of-mag z (omega (arith, h .0)) (omega (arith, h .1)) in
+    omega arith
+
 pub of-fits : (w : Width) (z : ℤ) → SFits w z → (P z < N z + 2 ^ hbits w) × (N z ≤ P z + 2 ^ hbits w)
 of-fits w z f = mag-of z (f .sfits)
 

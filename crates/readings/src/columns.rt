@@ -1,15 +1,15 @@
 // Stamps, times of day, dates and their columns. Each function tells whether the name is one of its readers.
 use crate::show;
-use column::dates::Date32Type;
-use column::dates::Date64Type;
-use column::stamps::TimestampMicrosecondType;
-use column::stamps::TimestampMillisecondType;
-use column::stamps::TimestampNanosecondType;
-use column::stamps::TimestampSecondType;
-use column::times::Time32MillisecondType;
-use column::times::Time32SecondType;
-use column::times::Time64MicrosecondType;
-use column::times::Time64NanosecondType;
+use date_column::Date32Type;
+use date_column::Date64Type;
+use stamp_column::TimestampMicrosecondType;
+use stamp_column::TimestampMillisecondType;
+use stamp_column::TimestampNanosecondType;
+use stamp_column::TimestampSecondType;
+use time_column::Time32MillisecondType;
+use time_column::Time32SecondType;
+use time_column::Time64MicrosecondType;
+use time_column::Time64NanosecondType;
 
 pub fn of(name: &[u8], text: &[u8]) -> bool {
     if stamp(name, text) {
