@@ -114,8 +114,11 @@ fn shown(asked: Asked, number: u64, n: usize, line: &[u8], at: usize, out: &mut 
     show::line(asked, number, &line[..n], true, at, out)
 }
 
-// Writes the answers that are held.
+// Writes the answers that are held; once some were lost, no more.
 fn written(mut held: Held, out: &[u8]) -> Held {
+    if !held.more {
+        return held;
+    }
     if output::written(held.answers, out) {
         held.answers = 0;
         return held;

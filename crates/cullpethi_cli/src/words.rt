@@ -73,6 +73,9 @@ fn next(words: Words, at: usize) -> Words {
 impl Words {
     // Looks at what only the end can tell.
     fn finished(self) -> Words {
+        if !self.good {
+            return self;
+        }
         if self.wants_unit {
             output::bad_usage(b"no unit behind --default");
             return self.stopped();
