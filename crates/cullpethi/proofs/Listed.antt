@@ -13,7 +13,8 @@ use lib.IntN.{ℤ, pos, _*ℤ_}
 use lib.Signed.{quotZ}
 use Rattle.column.specs.Columns.{Column, TimestampNanosecond, TimestampMicrosecond, TimestampMillisecond, TimestampSecond, Time64Nanosecond, Time64Microsecond, Time32Millisecond, Time32Second, Date32, Date64, orElse, divided, timestampColumn, onInteger, timeColumn, millis, column}
 use Rattle.component.specs.Division.{divide}
-use Rattle.component.specs.Grammar.{Component, precision}
+use Rattle.component.specs.Grammar.{Component}
+use Rattle.amount.specs.Grammar.{precision}
 use Rattle.unit.specs.declared.IntervalUnit.{IntervalUnit}
 use Rattle.unit.specs.declared.IntervalUnit.the-variants.{Year, Month, Day}
 use Rattle.date.specs.Answer.{isSign, onDay, signedDay, shortDay, plainDay, dayNamed, inDays, dateDays}

@@ -24,12 +24,12 @@ use Rattle.text.proofs.DigitLaws.{is-worth, run-on, run-off, run-end}
 use Rattle.number.specs.Widths.{inSigned, signed, fit}
 use Rattle.number.proofs.Zed.{P-neg, N-neg, sub-ℤ, eq-of, fits-of}
 use Rattle.number.proofs.Ranges.{rd}
-use Rattle.component.specs.Grammar.{precision, wholeFits, Value, Amount}
-use Rattle.component.specs.Division.{negative, signLen, amountLen}
-use Rattle.component.specs.Amount.{amountOf}
-use Rattle.component.specs.Found.{cap, NumberIs, ReadIs, PointAt}
-use Rattle.component.specs.declared.amount.Number.{Number}
-use Rattle.component.proofs.AmountLaws.{run-is, measured, behind, wholeValue, afterDigits, afterPoint, unfit-len, whole-len, point-len, whole-value, point-value}
+use Rattle.amount.specs.Grammar.{precision, wholeFits, Value, Amount}
+use Rattle.amount.specs.Scan.{negative, signLen, amountLen, amountOf}
+use Rattle.amount.specs.Found.{cap, NumberIs, PointAt}
+use Rattle.amount.specs.Read.{ReadIs}
+use Rattle.amount.specs.declared.parts.Number.{Number}
+use Rattle.amount.proofs.AmountLaws.{run-is, measured, behind, wholeValue, afterDigits, afterPoint, unfit-len, whole-len, point-len, whole-value, point-value}
 
 -- ---- the number of digits, as far as the cap
 

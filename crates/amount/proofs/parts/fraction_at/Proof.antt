@@ -1,12 +1,12 @@
--- `component::amount::fraction_at` meets its contract, by the laws of the digits behind a point. Assumes nothing.
+-- `amount::parts::fraction_at` meets its contract, by the laws of the digits behind a point. Assumes nothing.
 use borrow.Author.Needs.{needs}
 use Prim.Native.Nat.{_*_}
 use native.Mathlib.Omega.{arith}
 use mir.Facts.{toZ-ofZ}
-use Rattle.component.specs.Found.{amountIs}
-use Rattle.component.proofs.Amounts.{no-fraction, long-fraction, size-below, size-cast, size-flips, size-minus, size-plus, pointed}
-use Rattle.component.proofs.amount.fraction_at.Statement.{statement}
-use Rattle.component.proofs.amount.fraction_at.Tie as tie
+use Rattle.amount.specs.Read.{amountIs}
+use Rattle.amount.proofs.Amounts.{no-fraction, long-fraction, size-below, size-cast, size-flips, size-minus, size-plus, pointed}
+use Rattle.amount.proofs.parts.fraction_at.Statement.{statement}
+use Rattle.amount.proofs.parts.fraction_at.Tie as tie
 
 number-at-requires : tie.Need-number-at-requires
 number-at-requires c κs = search needs

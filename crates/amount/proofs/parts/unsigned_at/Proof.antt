@@ -1,13 +1,13 @@
--- `component::amount::unsigned_at` meets its contract, by the laws of a whole part with its sign. Assumes nothing.
+-- `amount::parts::unsigned_at` meets its contract, by the laws of a whole part with its sign. Assumes nothing.
 use borrow.Author.Needs.{needs}
 use mathlib.Core.Path.{sym, ap, _∙_}
 use lib.ListN.{take, drop}
 use Rattle.text.specs.Digits.{value, run}
 use Rattle.number.specs.Widths.{int64}
-use Rattle.component.specs.Found.{amountIs}
-use Rattle.component.proofs.Amounts.{whole-fits, whole-over, unfit, no-amount, bare, point-at}
-use Rattle.component.proofs.amount.unsigned_at.Statement.{statement}
-use Rattle.component.proofs.amount.unsigned_at.Tie as tie
+use Rattle.amount.specs.Read.{amountIs}
+use Rattle.amount.proofs.Amounts.{whole-fits, whole-over, unfit, no-amount, bare, point-at}
+use Rattle.amount.proofs.parts.unsigned_at.Statement.{statement}
+use Rattle.amount.proofs.parts.unsigned_at.Tie as tie
 
 number-at-requires : tie.Need-number-at-requires
 number-at-requires c κs = search needs

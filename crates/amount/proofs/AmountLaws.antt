@@ -10,7 +10,7 @@ use native.Mathlib.Omega.{arith}
 use lib.Dec.{eqb, ltb}
 use lib.IntN.{pos, natAbs}
 use lib.Pow.{pow-add}
-use lib.ListN.{length, getD, take, drop, length-append, take-append-drop}
+use lib.ListN.{length, getD, take, drop, length-append, length-drop, take-append-drop}
 use lib.Seq.{take-append-seam, drop-append-seam, take-append-add, length-take-le, take-length, drop-length, take-add}
 use borrow.Author.Tests.{eqb-true, ne-eqb, ltb-true, lt-ltb}
 use Rattle.text.specs.Digits.{within, isDigit, digits, value, run}
@@ -21,10 +21,9 @@ use Rattle.text.proofs.Values.{ten-pos, value-below}
 use Rattle.number.specs.Decimal.{Digits, one-or-more}
 use Rattle.number.specs.Widths.{signed}
 use Rattle.number.proofs.Agreement.{all-digits, some-digits}
-use Rattle.component.specs.Grammar.{Sign, no-sign, minus, wholeFits, Fraction, Value, valued, scaled, Amount, whole, decimal, fraction}
-use Rattle.component.specs.Division.{negative, signLen, pointLen, digitsLen, amountLen}
-use Rattle.component.specs.Amount.{fracOf, unsignedOf, amountOf}
-use Rattle.component.specs.Read.{SameSign}
+use Rattle.amount.specs.Grammar.{Sign, no-sign, minus, wholeFits, Fraction, Value, valued, scaled, Amount, whole, decimal, fraction}
+use Rattle.amount.specs.Scan.{negative, signLen, pointLen, digitsLen, amountLen, fracOf, unsignedOf, amountOf}
+use Rattle.amount.specs.Read.{SameSign}
 use Rattle.utf8.proofs.Ascii.{ascii-then}
 
 -- ---- digits
@@ -195,6 +194,10 @@ amount-is n t = rw (take-append-drop (signLen (negative t)) t) at (digits-is n (
 pub amount-inside : (n : ℕ) (t : List ℕ) → amountLen n t ≤ length t
 unfolding Got
 amount-inside n t = ⊎-elim (λ e. omega arith) (λ g. g .2) (amount-is n t)
+
+-- no amount stands past the end
+pub past-text : (n : ℕ) (s : List ℕ) (at : ℕ) → length s ≤ at → amountLen n (drop at s) ≡ 0
+past-text n s at h = omega (arith, amount-inside n (drop at s), length-drop at s)
 
 -- ---- what an amount says
 

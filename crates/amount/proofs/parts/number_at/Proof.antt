@@ -1,4 +1,4 @@
--- `component::amount::number_at` meets its contract. The loop's invariant: what is read so far goes on to the number of the digits, and
+-- `amount::parts::number_at` meets its contract. The loop's invariant: what is read so far goes on to the number of the digits, and
 -- they end where the run does. The measure is what is left of the text. Assumes nothing.
 use mathlib.Core.Path.{_≡_, sym, _∙_}
 use Prim.Native.Nat.{_+_, _-_, _≤_}
@@ -7,10 +7,10 @@ use lib.ListN.{length, drop}
 use borrow.Author.Needs.{needs}
 use Rattle.text.specs.Digits.{run}
 use Rattle.text.proofs.DigitLaws.{run-on, run-off, run-end}
-use Rattle.component.specs.Found.{cap}
-use Rattle.component.proofs.Amounts.{numberOn, number-end, number-off, number-more}
-use Rattle.component.proofs.amount.number_at.Statement.{statement}
-use Rattle.component.proofs.amount.number_at.Tie as tie
+use Rattle.amount.specs.Found.{cap}
+use Rattle.amount.proofs.Amounts.{numberOn, number-end, number-off, number-more}
+use Rattle.amount.proofs.parts.number_at.Statement.{statement}
+use Rattle.amount.proofs.parts.number_at.Tie as tie
 
 abbrev Inv-loop : tie.InvT-loop
 Inv-loop text from value₀ i₀ value i =

@@ -1,9 +1,9 @@
--- `component::amount::scale` meets its contract, place by place. Assumes nothing.
+-- `amount::parts::scale` meets its contract, place by place. Assumes nothing.
 use mathlib.Core.Path.{_≡_}
 use native.Mathlib.Omega.{arith}
-use Rattle.component.proofs.Amounts.{NoneUpTo, past-all}
-use Rattle.component.proofs.amount.scale.Statement.{statement}
-use Rattle.component.proofs.amount.scale.Tie as tie
+use Rattle.amount.proofs.Amounts.{NoneUpTo, past-all}
+use Rattle.amount.proofs.parts.scale.Statement.{statement}
+use Rattle.amount.proofs.parts.scale.Tie as tie
 
 returns : tie.Need-returns
 returns c = rw (c .match .keys1)

@@ -1,23 +1,19 @@
-// Amounts, as Rust's `IntervalAmount::from_str` takes them, read at a place of a text.
+// The parts of an amount: digits as a number, the fraction, and what stands behind the sign.
+use crate::AmountRead;
 use crate::IntervalAmount;
 use number::Int64;
 ghost use mathlib.Core.Path.{_≡_};
 ghost use Prim.Native.Nat.{_+_, _-_, _*_, _^_, _≤_, _<_, min};
 ghost use lib.ListN.{length, drop};
-ghost use Rattle.component.specs.Grammar.{precision};
-ghost use Rattle.component.specs.Division.{negative, signLen};
-ghost use Rattle.component.specs.Found.{cap, NumberIs, PointAt, amountIs};
+ghost use Rattle.amount.specs.Grammar.{precision};
+ghost use Rattle.amount.specs.Scan.{negative, signLen};
+ghost use Rattle.amount.specs.Found.{cap, NumberIs, PointAt};
+ghost use Rattle.amount.specs.Read.{amountIs};
 
 // Digits of a text as a number, and where they end.
 pub struct Number {
     pub value: u64,
     pub next: usize,
-}
-
-// The amount at a place, and where it ends; or none.
-pub enum AmountRead {
-    Read(IntervalAmount, usize),
-    Bad,
 }
 
 // One digit more, up to a number that fits with no sign.
@@ -128,14 +124,4 @@ pub fn unsigned_at(text: &[u8], at: usize, from: usize, neg: bool) -> AmountRead
         }
         Int64::None => AmountRead::Bad,
     }
-}
-
-// The amount at a place: a minus is a sign, a plus is none.
-pub fn amount_at(text: &[u8], at: usize) -> AmountRead
-    requires { ⌜ at ≤ length (now text) ⌝ }
-    ensures { λ r. ⌜ amountIs precision (now (text .entry)) at r ⌝ }
-{
-    let neg = text::byte_at(text, at) == b'-';
-    let from = if neg { at + 1 } else { at };
-    unsigned_at(text, at, from, neg)
 }

@@ -1,20 +1,15 @@
--- What private functions of `component` find at a place of a text: digits, a point, an amount. The limit n is the most digits behind a
--- point. Assumes nothing.
+-- What private functions of `amount` find at a place of a text: digits, a point. Assumes nothing.
 use mathlib.Core.Path.{_≡_}
 use mathlib.Core.Bool.{Bool, true}
 use mathlib.Core.List.{List}
-use Prim.Native.Nat.{ℕ, _+_, _-_, _≤_, _<_, min}
+use Prim.Native.Nat.{ℕ, _+_, _-_, _≤_, min}
 use lib.IntN.{ℤ}
 use lib.ListN.{length, getD, take, drop}
 use Rattle.text.specs.Digits.{value, run}
 use Rattle.number.specs.Widths.{signed}
-use Rattle.component.specs.Grammar.{wholeFits, Amount}
-use Rattle.component.specs.Division.{negative, signLen, amountLen}
-use Rattle.component.specs.Read.{valueOf}
-use Rattle.component.specs.declared.amount.AmountRead.{AmountRead}
-use Rattle.component.specs.declared.amount.AmountRead.the-variants.{Read as ReadAmount, Bad as NoAmount}
-use Rattle.component.specs.declared.IntervalAmount.{IntervalAmount}
-use Rattle.component.specs.declared.amount.Number.{Number}
+use Rattle.amount.specs.Grammar.{wholeFits}
+use Rattle.amount.specs.Scan.{negative, signLen}
+use Rattle.amount.specs.declared.parts.Number.{Number}
 
 -- one more than the size of the least number of 64 signed bits
 abbrev pub cap : ℕ
@@ -25,18 +20,6 @@ pub record NumberIs (s : List ℕ) (from : ℕ) (r : Number) : Type 0 where
   pub value-is : r .value ≡ min (value 0 (take (run (drop from s)) (drop from s))) cap
   pub next-is : r .next ≡ from + run (drop from s)
   pub inside : r .next ≤ length s
-
--- an amount of s from at to end, and the value that it holds
-pub record ReadIs (n : ℕ) (s : List ℕ) (at : ℕ) (a : IntervalAmount) (end : ℕ) : Type 0 where
-  pub further : at < end
-  pub inside : end ≤ length s
-  pub end-is : end ≡ at + amountLen n (drop at s)
-  pub says : Amount n (take (end - at) (drop at s)) (valueOf a)
-
--- what stands at a place: an amount, or none
-unfoldable pub amountIs : ℕ → List ℕ → ℕ → AmountRead → Type 0
-amountIs n s at (ReadAmount a end) = ReadIs n s at a end
-amountIs n s at NoAmount = amountLen n (drop at s) ≡ 0
 
 -- a sign and digits whose number is a whole part stand from at on, and a point before the place from
 pub record PointAt (s : List ℕ) (at from : ℕ) (neg : Bool) (integer : ℤ) : Type 0 where
