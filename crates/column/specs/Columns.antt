@@ -15,7 +15,7 @@ use Rattle.refusal.specs.Outcome.{Outcome, accepted, refused, andThen}
 use Rattle.text.specs.Trim.{trimmed}
 use Rattle.time.specs.Answer.{timeNanos}
 use Rattle.stamp_text.specs.Answer.{datetime, stampNanos}
-use Rattle.stamp_text.specs.Meaning.{instant}
+use Rattle.datetime.specs.Moment.{instant}
 
 pub data Column : Type 0 where
   TimestampNanosecond TimestampMicrosecond TimestampMillisecond TimestampSecond : Column

@@ -30,7 +30,7 @@ use Rattle.utf8.specs.Utf8.{utf8}
 use Rattle.time.specs.Answer.{timeOfDay, timeNanos}
 use Rattle.time.specs.Answer as Times
 use Rattle.stamp_text.specs.Answer.{dayOf, Timed, timeOf, isEnding, isSeparator, onTime, onDate, plainMoment, inNanos, stampNanos}
-use Rattle.stamp_text.specs.Meaning.{moment, instant}
+use Rattle.datetime.specs.Moment.{moment, instant}
 use Rattle.site.specs.Site.{isSite, siteNanos}
 use Rattle.refusal.proofs.Outcomes.{clash, same}
 use Rattle.unit.specs.Units.{unitNumbered}

@@ -1,5 +1,6 @@
 // Stamps: RFC 3339 timestamps in UTC, and the forms close to them that the Rust reads.
 use clock::NaiveTime;
+use datetime::NaiveDateTime;
 use refusal::Refusal;
 
 mod parser;
@@ -9,12 +10,6 @@ pub mod stamp;
 pub enum TimeAndEnd {
     At(NaiveTime, usize),
     None,
-}
-
-// A day, counted from 1970-01-01, and a time of it.
-pub struct NaiveDateTime {
-    pub day: i64,
-    pub time: NaiveTime,
 }
 
 // What a stamp names.

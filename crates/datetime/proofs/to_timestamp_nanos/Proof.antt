@@ -1,13 +1,13 @@
--- `timestamp::stamp::to_timestamp_nanos` meets its contract, by the laws of a day and a time of it. Assumes nothing.
+-- `datetime::to_timestamp_nanos` meets its contract, by the laws of a day and a time of it. Assumes nothing.
 use mathlib.Core.Path.{ap, _∙_}
 use Prim.Native.Nat.{_<_}
 use mir.Syntax.{w64}
 use mir.Val.{SFits}
 use borrow.Author.Needs.{needs}
 use Rattle.number.specs.Widths.{fit}
-use Rattle.timestamp.proofs.Instants.{days-before, days-after, day-fits, time-fits, joined}
-use Rattle.timestamp.proofs.stamp.to_timestamp_nanos.Statement.{statement}
-use Rattle.timestamp.proofs.stamp.to_timestamp_nanos.Tie as tie
+use Rattle.datetime.proofs.Instants.{days-before, days-after, day-fits, time-fits, joined}
+use Rattle.datetime.proofs.to_timestamp_nanos.Statement.{statement}
+use Rattle.datetime.proofs.to_timestamp_nanos.Tie as tie
 
 day-in : (c : tie.After-time) → SFits w64 (c .before .before .args .dt .day)
 day-in c = record { sfits = c .before .struct-told .given .0 .1 }

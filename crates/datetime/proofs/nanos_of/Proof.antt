@@ -1,10 +1,10 @@
--- `timestamp::stamp::nanos_of` meets its contract, by the laws of seconds and their size. Assumes nothing.
+-- `datetime::nanos_of` meets its contract, by the laws of seconds and their size. Assumes nothing.
 use mathlib.Core.Path.{ap, _∙_}
 use borrow.Author.Needs.{needs}
 use Rattle.number.specs.Widths.{fit}
-use Rattle.timestamp.proofs.Instants.{too-far, from-zero, below-zero, across-zero}
-use Rattle.timestamp.proofs.stamp.nanos_of.Statement.{statement}
-use Rattle.timestamp.proofs.stamp.nanos_of.Tie as tie
+use Rattle.datetime.proofs.Instants.{too-far, from-zero, below-zero, across-zero}
+use Rattle.datetime.proofs.nanos_of.Statement.{statement}
+use Rattle.datetime.proofs.nanos_of.Tie as tie
 
 magnitude-requires : tie.Need-magnitude-requires
 magnitude-requires c κs = search needs
