@@ -1,11 +1,10 @@
 // Stamps.
 use crate::DateTime;
-use crate::TimeAndEnd;
-use crate::parser;
 use calendar::Day;
 use clock::NaiveTime;
 use datetime::NaiveDateTime;
 use number::Int64;
+use parser::TimeAndEnd;
 use refusal::Read64;
 use refusal::Refusal;
 use text::digits::CAPITAL_T;

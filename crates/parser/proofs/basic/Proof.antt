@@ -1,10 +1,10 @@
--- `timestamp::parser::basic` meets its contract, by the laws of a time without colons. Assumes nothing.
+-- `parser::basic` meets its contract, by the laws of a time without colons. Assumes nothing.
 use mathlib.Core.Path.{ap, _∙_}
 use borrow.Author.Needs.{needs}
 use Rattle.text.specs.Digits.{digitOf}
-use Rattle.timestamp.proofs.Times.{BasicRead, no-time, without-colons}
-use Rattle.timestamp.proofs.parser.basic.Statement.{statement}
-use Rattle.timestamp.proofs.parser.basic.Tie as tie
+use Rattle.parser.proofs.Times.{BasicRead, no-time, without-colons}
+use Rattle.parser.proofs.basic.Statement.{statement}
+use Rattle.parser.proofs.basic.Tie as tie
 
 -- from where all is read back to where the numbers are, and to the text
 abbrev numbers : tie.After-digit2 → tie.After-two3

@@ -1,11 +1,11 @@
--- `timestamp::parser::date` meets its contract, by the laws of a date that was read. Assumes nothing.
+-- `parser::date` meets its contract, by the laws of a date that was read and of one cut short. Assumes nothing.
 use mathlib.Core.Path.{_∙_}
 use mir.Facts.{toZ-pos}
 use mir.Syntax.{w32}
 use borrow.Author.Needs.{needs}
-use Rattle.timestamp.proofs.Dates.{DateRead, no-date, a-date}
-use Rattle.timestamp.proofs.parser.date.Statement.{statement}
-use Rattle.timestamp.proofs.parser.date.Tie as tie
+use Rattle.parser.proofs.Dates.{DateRead, no-date, a-date, short-of-date}
+use Rattle.parser.proofs.date.Statement.{statement}
+use Rattle.parser.proofs.date.Tie as tie
 
 -- from where all is read back to where the numbers are
 abbrev numbers : tie.After-digit2 → tie.After-two4
@@ -13,7 +13,7 @@ numbers c = c .before .before .before .before
 
 values :
     (c : tie.After-digit2) →
-    DateRead (numbers c .before .before .before .before .before .args .s .now) (numbers c .before .before .before .two .result)
+    DateRead (numbers c .before .before .before .before .before .before .args .s .now) (numbers c .before .before .before .two .result)
     (numbers c .before .before .two2 .result) (c .before .before .digit .result) (numbers c .before .two3 .result) (c .digit2 .result)
     (numbers c .two4 .result)
 values c =
@@ -26,6 +26,9 @@ values c =
       second = c .digit2 .ensures;
       day = k .two4 .ensures;
     }
+
+returns : tie.Need-returns
+returns c = short-of-date (c .before .before .args .s .now) (c .if1 .taken)
 
 two-requires : tie.Need-two-requires
 two-requires c κs = search needs
@@ -51,8 +54,8 @@ shared-slice-read-digit-2 c = search needs
 digit-requires-2 : tie.Need-digit-requires-2
 digit-requires-2 c κs = search needs
 
-returns : tie.Need-returns
-returns c = no-date (λ i. c .before .before .shared-slice-known3 .given i .fits) (values (c .before)) (c .if1 .taken)
+returns-2 : tie.Need-returns-2
+returns-2 c = no-date (λ i. c .before .before .shared-slice-known3 .given i .fits) (values (c .before)) (c .if2 .taken)
 
 cast-whole-year : tie.Need-cast-whole-year
 cast-whole-year c = search needs
@@ -78,16 +81,17 @@ cast-days-from-ymd-3 c = search needs
 days-from-ymd-requires : tie.Need-days-from-ymd-requires
 days-from-ymd-requires c κs = search needs
 
-returns-2 : tie.Need-returns-2
-returns-2 c =
+returns-3 : tie.Need-returns-3
+returns-3 c =
     let d = c .before .before in
     c .days-from-ymd .ensures ∙
-    a-date (λ i. d .before .shared-slice-known3 .given i .fits) (values d) (toZ-pos w32 (cast-days-from-ymd (c .before) .sfits)) (c .before .if1 .left)
+    a-date (λ i. d .before .shared-slice-known3 .given i .fits) (values d) (toZ-pos w32 (cast-days-from-ymd (c .before) .sfits)) (c .before .if2 .left)
 
 pub date-spec : {M : Type 1} → statement M
 date-spec =
     tie.close
     (tie.spec
+    returns
     two-requires
     two-requires-2
     two-requires-3
@@ -96,7 +100,7 @@ date-spec =
     digit-requires
     shared-slice-read-digit-2
     digit-requires-2
-    returns
+    returns-2
     cast-whole-year
     mul-whole-year
     cast-whole-year-2
@@ -105,4 +109,4 @@ date-spec =
     cast-days-from-ymd-2
     cast-days-from-ymd-3
     days-from-ymd-requires
-    returns-2)
+    returns-3)

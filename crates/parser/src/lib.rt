@@ -1,6 +1,6 @@
 // The Rust's `TimestampParser`, over the text itself: its bytes less 48, wrapping, by their places.
-use crate::TimeAndEnd;
 use calendar::Day;
+use clock::NaiveTime;
 use clock::Time;
 use text::byte_at;
 use text::digits::COLON;
@@ -14,14 +14,22 @@ ghost use lib.ListN.{length, drop};
 ghost use Rattle.calendar.specs.Calendar.{day};
 ghost use Rattle.calendar.specs.Cycle.{YearStarts};
 ghost use Rattle.stamp_text.specs.Answer.{dayOf, basicTime, afterSeconds, timeOf, timedAt};
-ghost use Rattle.timestamp.specs.Helpers.{endsAt};
+ghost use Rattle.parser.specs.Read.{endsAt};
+
+// A time of day in a text and the place where it ends, or none.
+pub enum TimeAndEnd {
+    At(NaiveTime, usize),
+    None,
+}
 
 // Parses a date of the form `1997-01-31`.
 pub fn date(starts: &[u32; 401], s: &[u8]) -> Day
     requires { ⌜ YearStarts (now starts) ⌝ }
-    requires { ⌜ 10 ≤ length (now s) ⌝ }
     ensures { λ r. ⌜ day r ≡ dayOf (now (s .entry)) ⌝ }
 {
+    if s.len() < 10 {
+        return Day::None;
+    }
     let century = two(s, 0);
     let year = two(s, 2);
     let month = two(s, 5);

@@ -1,9 +1,9 @@
--- `timestamp::parser::time` meets its contract, by the laws of a time with colons and of one cut short. Assumes nothing.
+-- `parser::time` meets its contract, by the laws of a time with colons and of one cut short. Assumes nothing.
 use mathlib.Core.Path.{_∙_}
 use borrow.Author.Needs.{needs}
-use Rattle.timestamp.proofs.Times.{ColonsRead, no-colons, with-colons, short-of-colons, short-of-time}
-use Rattle.timestamp.proofs.parser.time.Statement.{statement}
-use Rattle.timestamp.proofs.parser.time.Tie as tie
+use Rattle.parser.proofs.Times.{ColonsRead, no-colons, with-colons, short-of-colons, short-of-time}
+use Rattle.parser.proofs.time.Statement.{statement}
+use Rattle.parser.proofs.time.Tie as tie
 
 -- from where all is read back to where the numbers are
 abbrev numbers : tie.After-digit2 → tie.After-two3

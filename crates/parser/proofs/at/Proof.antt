@@ -1,4 +1,4 @@
--- `timestamp::parser::at` meets its contract: a time of the clock with the bytes after it. Assumes nothing.
+-- `parser::at` meets its contract: a time of the clock with the bytes after it. Assumes nothing.
 use mathlib.Core.Path.{_≡_, sym, ap, _∙_}
 use mathlib.Core.List.{List}
 use Prim.Native.Nat.{ℕ}
@@ -7,9 +7,9 @@ use borrow.Author.Needs.{needs}
 use Rattle.clock.specs.declared.Time.{Time}
 use Rattle.clock.specs.Clock.{timeIs}
 use Rattle.stamp_text.specs.Answer.{timedAt}
-use Rattle.timestamp.proofs.Fractions.{withTail, timed-at}
-use Rattle.timestamp.proofs.parser.at.Statement.{statement}
-use Rattle.timestamp.proofs.parser.at.Tie as tie
+use Rattle.parser.proofs.Fractions.{withTail, timed-at}
+use Rattle.parser.proofs.at.Statement.{statement}
+use Rattle.parser.proofs.at.Tie as tie
 
 -- what the clock gave, with the bytes after it
 abbrev entry : tie.After-from-hms-nano → tie.Start

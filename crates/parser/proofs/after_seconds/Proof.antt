@@ -1,12 +1,12 @@
--- `timestamp::parser::after_seconds` meets its contract, by the laws of what follows the seconds. Assumes nothing.
+-- `parser::after_seconds` meets its contract, by the laws of what follows the seconds. Assumes nothing.
 use mathlib.Core.Path.{_≡_, ap, _∙_}
 use native.Mathlib.Omega.{arith}
 use lib.ListN.{getD}
 use borrow.Author.Needs.{needs}
 use Rattle.text.specs.Digits.{digitOf}
-use Rattle.timestamp.proofs.Fractions.{point-inside, no-point, point-alone, fraction}
-use Rattle.timestamp.proofs.parser.after_seconds.Statement.{statement}
-use Rattle.timestamp.proofs.parser.after_seconds.Tie as tie
+use Rattle.parser.proofs.Fractions.{point-inside, no-point, point-alone, fraction}
+use Rattle.parser.proofs.after_seconds.Statement.{statement}
+use Rattle.parser.proofs.after_seconds.Tie as tie
 
 byte-19 : (c : tie.After-digit) → c .digit .result ≡ digitOf (getD (c .before .before .before .args .s .now) 19 0)
 byte-19 c = c .digit .ensures ∙ ap digitOf (c .before .byte-at .ensures)
