@@ -32,7 +32,7 @@ use Rattle.time.specs.Answer.{timeNanos}
 use Rattle.time.proofs.Agreement as Times
 use Rattle.time_column.specs.Answer.{onInteger, asInteger, timeColumn}
 use Rattle.stamp_text.specs.Answer.{datetime, stampNanos}
-use Rattle.stamp_text.specs.Meaning.{Moment, instant}
+use Rattle.datetime.specs.Moment.{Moment, instant}
 use Rattle.stamp_text.proofs.Agreement as Stamps
 use Rattle.stamp_text.proofs.Refusals as StampRefusals
 use Rattle.column.specs.Columns.{Column, TimestampNanosecond, TimestampMicrosecond, TimestampMillisecond, TimestampSecond, Time64Nanosecond, Time64Microsecond, Time32Millisecond, Time32Second, Date32, Date64, column}

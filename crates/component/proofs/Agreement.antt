@@ -19,12 +19,14 @@ use Rattle.text.proofs.Bools.{within-under, within-over}
 use Rattle.utf8.proofs.Utf8Agrees as Utf8Agrees
 use Rattle.white.proofs.WhiteAgrees.{found, measures}
 use Rattle.unit.specs.Units.{isUnit, wordLen}
-use Rattle.component.specs.Grammar.{Value, Amount, Component, component, Complete, glued, apart, Divides, bare, last, more}
-use Rattle.component.specs.Division.{amountLen, Step, bad, stop, go, endStep, unitStep, restStep, amountStep, step, before, then, divideBy, divide}
+use Rattle.amount.specs.Grammar.{Value, Amount}
+use Rattle.component.specs.Grammar.{Component, component, Complete, glued, apart, Divides, bare, last, more}
+use Rattle.amount.specs.Scan.{amountLen}
+use Rattle.component.specs.Division.{Step, bad, stop, go, endStep, unitStep, restStep, amountStep, step, before, then, divideBy, divide}
 use Rattle.white.proofs.Characters.{lead, white-some, white-utf8}
 use Rattle.unit.proofs.Spelling.{unit-letters, letters-utf8, Ends, at-end, at-white, unit-first, unit-not-white, word-run}
 use Rattle.unit.proofs.WordLaws.{Halts, word-is}
-use Rattle.component.proofs.AmountLaws.{Breaks, nothing-breaks, amount-run, amount-some, amount-utf8, Got, amount-is}
+use Rattle.amount.proofs.AmountLaws.{Breaks, nothing-breaks, amount-run, amount-some, amount-utf8, Got, amount-is}
 
 -- ---- white space and unit words end an amount
 

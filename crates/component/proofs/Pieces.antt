@@ -13,13 +13,14 @@ use Rattle.unit.specs.Read.{wordEnd, wordOf, Followed}
 use Rattle.unit.specs.declared.IntervalUnit.{IntervalUnit}
 use Rattle.unit.proofs.Spelling.{spells, spells-none}
 use Rattle.unit.proofs.WordLaws.{word-here}
-use Rattle.component.specs.Grammar.{precision, component}
+use Rattle.amount.specs.Grammar.{precision}
+use Rattle.component.specs.Grammar.{component}
 use Rattle.component.specs.Division.{step, bad}
-use Rattle.component.specs.Amount.{spelled, unitFor}
+use Rattle.component.specs.Spelled.{spelled, unitFor}
 use Rattle.component.specs.Read.{Holds, LastIs, MoreIs}
-use Rattle.component.specs.Found.{ReadIs}
-use Rattle.component.specs.declared.IntervalAmount.{IntervalAmount}
-use Rattle.component.proofs.AmountLaws.{same-sign, frac-small}
+use Rattle.amount.specs.Read.{ReadIs}
+use Rattle.amount.specs.declared.IntervalAmount.{IntervalAmount}
+use Rattle.amount.proofs.AmountLaws.{same-sign, frac-small}
 use Rattle.component.proofs.Steps.{amount-last, word-bad, unit-last, unit-more}
 
 -- the unit of a component with an amount a, spaced or not: the default u where there is no word, else what the word w spells

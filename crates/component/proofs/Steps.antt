@@ -9,12 +9,13 @@ use native.Mathlib.Omega.{arith}
 use lib.Dec.{eqb}
 use lib.ListN.{length, take, drop, length-append, length-drop, drop-of-length-le}
 use lib.Seq.{drop-drop}
-use Rattle.text.specs.Digits.{value, run}
 use Rattle.white.specs.WhiteSpace.{whiteLen}
 use Rattle.unit.specs.Units.{isUnit, wordLen}
-use Rattle.component.specs.Grammar.{wholeFits, Component, component}
-use Rattle.component.specs.Division.{negative, signLen, pointLen, digitsLen, amountLen, Step, bad, stop, go, endStep, unitStep, restStep, amountStep, step, before, then, divideBy, divide}
+use Rattle.component.specs.Grammar.{Component, component}
+use Rattle.amount.specs.Scan.{amountLen}
+use Rattle.component.specs.Division.{Step, bad, stop, go, endStep, unitStep, restStep, amountStep, step, before, then, divideBy, divide}
 use Rattle.white.proofs.Characters.{white-some}
+use Rattle.amount.proofs.AmountLaws.{past-text}
 use Rattle.component.proofs.Agreement.{StepIs, is-bad, is-stop, is-go, step-sound, computed, sound, agrees, rest-cons, end-cons}
 
 -- ---- the count of components does not matter
@@ -74,8 +75,7 @@ module _ (n : ℕ) (s : List ℕ) (at : ℕ) where
 
   -- nothing stands past the end
   pub past-end : length s ≤ at → step n (drop at s) ≡ bad
-  unfolding amountLen digitsLen pointLen negative signLen wholeFits run value
-  past-end h = no-amount (rw (drop-of-length-le s h))
+  past-end h = no-amount (past-text n s at h)
 
   module _ (e : ℕ) (E : e ≡ at + amountLen n (drop at s)) (some-amount : at < e) where
     after-amount : step n (drop at s) ≡ restStep (take (e - at) (drop at s)) (e - at) (drop e s)

@@ -1,41 +1,16 @@
 -- The division of an interval text, computed from the left: an amount, then its unit, then the white space before the next component.
 -- The limit n is the most digits behind a point. `Rattle.component.proofs.Agreement.agrees` says that it computes exactly the divisions
 -- of Grammar.antt. Assumes nothing.
-use mathlib.Core.Bool.{Bool, true, false, cond, not}
+use mathlib.Core.Bool.{Bool, true, false, not}
 use mathlib.Core.List.{List, [], _∷_}
 use mathlib.Core.Option.{Option, none, some}
 use Prim.Native.Nat.{ℕ, zero, suc, _+_}
-use lib.Dec.{eqb, ltb}
-use lib.ListN.{length, getD, take, drop}
-use Rattle.text.specs.Digits.{within, value, run}
+use lib.Dec.{eqb}
+use lib.ListN.{length, take, drop}
 use Rattle.white.specs.WhiteSpace.{whiteLen}
-use Rattle.component.specs.Grammar.{wholeFits, Component, component}
+use Rattle.component.specs.Grammar.{Component, component}
 use Rattle.unit.specs.Units.{isUnit, wordLen}
-
--- the text begins with a minus
-unfoldable pub negative : List ℕ → Bool
-negative t = eqb (getD t 0 0) 0x2D
-
--- how many bytes a sign takes
-unfoldable pub signLen : Bool → ℕ
-signLen true = 1
-signLen false = 0
-
--- the length of an amount, 0 for none, where s bytes of sign and k digits, of a number that fits or not, stand before t
-unfoldable pub pointLen : (n s k : ℕ) → Bool → List ℕ → ℕ
-pointLen n s k false t = 0
-pointLen n s k true t =
-    cond (eqb (getD t 0 0) 0x2E)
-    (cond (within 1 (run (drop 1 t)) n) (s + (k + suc (run (drop 1 t)))) 0)
-    (cond (ltb 0 k) (s + k) 0)
-
--- the same, where only the sign, true for minus, stands before t
-unfoldable pub digitsLen : ℕ → Bool → List ℕ → ℕ
-digitsLen n neg t = pointLen n (signLen neg) (run t) (wholeFits neg (value 0 (take (run t) t))) (drop (run t) t)
-
--- the length of the amount that a text begins with, 0 for none
-unfoldable pub amountLen : ℕ → List ℕ → ℕ
-amountLen n t = digitsLen n (negative t) (drop (signLen (negative t)) t)
+use Rattle.amount.specs.Scan.{amountLen}
 
 -- what a text begins with: no component, a component that ends it, or a component and white space of so many bytes together
 pub data Step : Type 0 where

@@ -1,8 +1,6 @@
--- What the contracts of `component` cite. A reviewer must believe the grammar and its division, what a component says, and what the answer
--- of `component` says of both.
+-- What the contracts of `component` cite, all of it to be believed: the grammar and its division, a component's unit, and what the answer of
+-- `component` says of them. What an amount is stands in `amount`.
 pub mod Grammar
 pub mod Division
-pub mod Amount
+pub mod Spelled
 pub mod Read
--- What only names the finds of private functions: digits, a point, an amount.
-pub mod Found

@@ -1,35 +1,23 @@
 -- What the answer of `component` says: the component at a place of a text, and where a reader goes on from there. The limit n is the most
 -- digits behind a point. Assumes nothing.
 use mathlib.Core.Path.{_≡_}
-use mathlib.Core.Bool.{Bool}
 use mathlib.Core.List.{List}
 use mathlib.Core.Option.{Option, some}
 use Prim.Native.Nat.{ℕ, _-_, _^_, _≤_, _<_}
-use lib.IntN.{ℤ, natAbs}
+use lib.IntN.{natAbs}
 use lib.ListN.{length, drop}
-use Rattle.number.specs.Widths.{signed}
 use Rattle.unit.specs.Units.{orElse}
 use Rattle.unit.specs.Read.{unitRead}
-use Rattle.component.specs.Grammar.{Value, valued, Amount, Component}
+use Rattle.component.specs.Grammar.{Component}
 use Rattle.component.specs.Division.{bad, stop, go, step}
-use Rattle.component.specs.Amount.{unitFor}
-use Rattle.component.specs.declared.IntervalAmount.{IntervalAmount}
+use Rattle.component.specs.Spelled.{unitFor}
+use Rattle.amount.specs.Grammar.{Amount}
+use Rattle.amount.specs.Read.{valueOf, SameSign}
+use Rattle.amount.specs.declared.IntervalAmount.{IntervalAmount}
 use Rattle.unit.specs.declared.IntervalUnit.{IntervalUnit}
 use Rattle.component.specs.declared.Piece.{Piece}
 use Rattle.component.specs.declared.Piece.the-variants.{Bad, Last, More}
 use Rattle.component.specs.declared.Taken.{Taken}
-
--- the value of an amount as the code holds it
-abbrev pub valueOf : IntervalAmount → Value
-valueOf a = valued (a .integer) (a .frac)
-
--- two numbers, none of them with a sign opposite to the other's
-pub record SameSign (i f : ℤ) : Type 0 where
-  pub neg : Bool
-  pub whole : ℕ
-  pub part : ℕ
-  pub whole-is : i ≡ signed neg whole
-  pub part-is : f ≡ signed neg part
 
 -- a component, its amount's value and its unit, where none stands for the default
 pub record Holds (n : ℕ) (c : Component) (a : IntervalAmount) (w : Option IntervalUnit) : Type 0 where

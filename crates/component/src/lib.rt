@@ -1,18 +1,12 @@
 // One component of an interval text: an amount and its unit, read at a place.
+use amount::IntervalAmount;
 use unit::IntervalUnit;
 use unit::UnitRead;
-ghost use Rattle.component.specs.Grammar.{precision};
+ghost use Rattle.amount.specs.Grammar.{precision};
 ghost use Rattle.component.specs.Read.{takenIs};
 
-mod amount;
 mod reader;
 mod split;
-
-// An amount: its whole part, and its fraction times ten to the limit of fraction digits; both carry the sign.
-pub struct IntervalAmount {
-    pub integer: i64,
-    pub frac: i64,
-}
 
 // The component at a place: none, one that ends the text, or one with its unit and the place behind the white space that follows.
 // No unit stands for the default.

@@ -6,7 +6,7 @@ use crate::split;
 ghost use mathlib.Core.Path.{_≡_};
 ghost use Prim.Native.Nat.{_≤_};
 ghost use lib.ListN.{length};
-ghost use Rattle.component.specs.Grammar.{precision};
+ghost use Rattle.amount.specs.Grammar.{precision};
 ghost use Rattle.component.specs.Read.{pieceIs, placeAfter, takenIs};
 
 // A lent text, and a place in it.

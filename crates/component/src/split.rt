@@ -1,17 +1,16 @@
 // The components of a text: Rust's `split_interval_components`, one component at a place, with the text and the place by value.
-use crate::IntervalAmount;
 use crate::Piece;
-use crate::amount;
-use crate::amount::AmountRead;
+use amount::AmountRead;
+use amount::IntervalAmount;
 use unit::UnitRead;
 use unit::WordRead;
 use unit::words;
 ghost use mathlib.Core.Path.{_≡_};
 ghost use Prim.Native.Nat.{_≤_};
 ghost use lib.ListN.{length};
-ghost use Rattle.component.specs.Grammar.{precision};
+ghost use Rattle.amount.specs.Grammar.{precision};
 ghost use Rattle.component.specs.Read.{pieceIs, placeAfter};
-ghost use Rattle.component.specs.Found.{ReadIs};
+ghost use Rattle.amount.specs.Read.{ReadIs};
 
 // A component whose amount stands from `at` to `end`: its unit follows, glued or behind white space, or nothing does.
 pub fn unit_at(text: &[u8], at: usize, amount: IntervalAmount, end: usize) -> Piece

@@ -13,7 +13,8 @@ use lib.IntN.{ℤ, pos, _*ℤ_}
 use lib.Signed.{quotZ}
 use Rattle.column.specs.Columns.{Column, TimestampNanosecond, TimestampMicrosecond, TimestampMillisecond, TimestampSecond, Time64Nanosecond, Time64Microsecond, Time32Millisecond, Time32Second, Date32, Date64, column}
 use Rattle.component.specs.Division.{divide}
-use Rattle.component.specs.Grammar.{Component, precision}
+use Rattle.component.specs.Grammar.{Component}
+use Rattle.amount.specs.Grammar.{precision}
 use Rattle.unit.specs.declared.IntervalUnit.{IntervalUnit}
 use Rattle.unit.specs.declared.IntervalUnit.the-variants.{Year, Month, Day}
 use Rattle.date.specs.Answer.{isSign, onDay, signedDay, shortDay, plainDay, dayNamed, inDays, dateDays}
@@ -31,7 +32,7 @@ use Rattle.utf8.specs.Utf8.{utf8}
 use Rattle.time.specs.Answer.{timeOfDay, timeNanos}
 use Rattle.time.specs.Answer as Times
 use Rattle.stamp_text.specs.Answer.{dayOf, Timed, timeOf, isEnding, isSeparator, onTime, onDate, plainMoment, inNanos, stampNanos}
-use Rattle.stamp_text.specs.Meaning.{moment, instant}
+use Rattle.datetime.specs.Moment.{moment, instant}
 use Rattle.site.specs.Site.{isSite, siteNanos}
 use Rattle.stamp_column.specs.Answer.{timestampColumn}
 use Rattle.time_column.specs.Answer.{onInteger, timeColumn}

@@ -19,9 +19,10 @@ use Rattle.date.specs.Answer.{toHyphen, extendedYmd, shortDay, plainDay}
 use Rattle.clock.specs.Grammar.{noDigits}
 use Rattle.column.specs.Columns.{Date32, column}
 use Rattle.unit.specs.Units.{rank, spellings, same, oneOf, find, low, kelvin, lower, unitOf, present, isUnit, wordLen, orElse}
-use Rattle.component.specs.Grammar.{precision, wholeFits, scaled}
-use Rattle.component.specs.Division.{negative, signLen, pointLen, digitsLen, amountLen, endStep, unitStep, restStep, amountStep, step, before, then, divideBy, divide}
-use Rattle.component.specs.Amount.{fracOf, unsignedOf, amountOf, spelled, unitFor}
+use Rattle.amount.specs.Grammar.{precision, wholeFits, scaled}
+use Rattle.amount.specs.Scan.{negative, signLen, pointLen, digitsLen, amountLen, fracOf, unsignedOf, amountOf}
+use Rattle.component.specs.Division.{endStep, unitStep, restStep, amountStep, step, before, then, divideBy, divide}
+use Rattle.component.specs.Spelled.{spelled, unitFor}
 use Rattle.rule.specs.Contribution.{times, wholeTimes, fracTimes, contribution, fits, plus}
 use Rattle.rule.specs.Answer.{gives, totals, has, twice, onTotals, onDivision, monthDayNano, plainMonthDayNano}
 

@@ -3,7 +3,7 @@ use mathlib.Core.List.{List}
 use Prim.Native.Nat.{ℕ}
 use lib.IntN.{ℤ}
 use Rattle.column.specs.Columns.{Column, column}
-use Rattle.component.specs.Grammar.{precision}
+use Rattle.amount.specs.Grammar.{precision}
 use Rattle.rule.specs.Answer.{dayTime, plainMonthDayNano, yearMonth}
 use Rattle.rule.specs.Contribution.{Counts}
 use Rattle.rule.specs.Meaning.{DayTime}

@@ -4,7 +4,7 @@ use mathlib.Core.List.{List}
 use mathlib.Core.Option.{Option, none, some}
 use Prim.Native.Nat.{ℕ}
 use Rattle.refusal.specs.Outcome.{Outcome, refused}
-use Rattle.component.specs.Grammar.{precision}
+use Rattle.amount.specs.Grammar.{precision}
 use Rattle.unit.specs.declared.IntervalUnit.{IntervalUnit}
 use Rattle.rule.specs.Contribution.{Counts}
 use Rattle.rule.specs.Answer.{monthDayNano}

@@ -24,7 +24,7 @@ use total::IntervalParseConfig;
 use unit::UnitRead;
 use unit::numbers::unit_numbered;
 ghost use Rattle.column.specs.Columns.{column, TimestampNanosecond, TimestampMicrosecond, TimestampMillisecond, TimestampSecond, Time64Nanosecond, Time64Microsecond, Time32Millisecond, Time32Second, Date32, Date64};
-ghost use Rattle.component.specs.Grammar.{precision};
+ghost use Rattle.amount.specs.Grammar.{precision};
 ghost use Rattle.rule.specs.Answer.{dayTime, plainMonthDayNano, yearMonth};
 ghost use Rattle.rule.specs.Meaning.{dayTimeOf};
 ghost use Rattle.rule.specs.Contribution.{counts};

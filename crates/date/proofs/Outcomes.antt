@@ -12,7 +12,7 @@ use Rattle.utf8.specs.Utf8.{utf8}
 use Rattle.text.proofs.Bools.{by-test}
 use Rattle.refusal.proofs.Outcomes.{orRange}
 use Rattle.stamp_text.specs.Answer.{datetime}
-use Rattle.stamp_text.specs.Meaning.{Moment}
+use Rattle.datetime.specs.Moment.{Moment}
 use Rattle.date.specs.Answer.{isSign, signedDay, shortDay, onDay, plainDay, dayNamed, inDays}
 
 -- ---- in days

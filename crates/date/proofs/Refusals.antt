@@ -17,7 +17,8 @@ use Rattle.text.proofs.Bools.{or-cases, by-test, fails, holds-not}
 use Rattle.utf8.proofs.Utf8Agrees as utf
 use Rattle.refusal.proofs.Outcomes.{clash, same}
 use Rattle.stamp_text.specs.Answer.{inNanos, datetime, stampNanos}
-use Rattle.stamp_text.specs.Meaning.{Moment, instant, Refuses as StampRefuses, not-utf8 as st-not-utf8, no-date as st-no-date, no-separator, no-time, more-after, out-of-range as st-out-of-range}
+use Rattle.datetime.specs.Moment.{Moment, instant}
+use Rattle.stamp_text.specs.Meaning.{Refuses as StampRefuses, not-utf8 as st-not-utf8, no-date as st-no-date, no-separator, no-time, more-after, out-of-range as st-out-of-range}
 use Rattle.stamp_text.proofs.Agreement as Stamps
 use Rattle.stamp_text.proofs.Refusals.{refusals as stamp-refusals}
 use Rattle.date.specs.Grammar.{plus, minus, NamesDay, DateForm, with-sign, within-ten, Refuses, not-utf8, no-date, as-stamp, out-of-range}

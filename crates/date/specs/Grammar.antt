@@ -14,7 +14,8 @@ use Rattle.number.specs.Decimal.{Numeral}
 use Rattle.text.specs.Digits.{digits, value}
 use Rattle.utf8.specs.Utf8.{Utf8, utf8}
 use Rattle.clock.specs.Grammar.{Figures, noDigits}
-use Rattle.stamp_text.specs.Meaning.{Moment, Names, Refuses as StampRefuses}
+use Rattle.datetime.specs.Moment.{Moment}
+use Rattle.stamp_text.specs.Meaning.{Names, Refuses as StampRefuses}
 
 -- one or two digits
 pub data OneOrTwo : List ℕ → Type 0 where

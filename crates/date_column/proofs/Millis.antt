@@ -11,7 +11,7 @@ use mir.Facts.{toZ-ofZ, toZ-pos}
 use Rattle.number.specs.Widths.{floor}
 use Rattle.number.proofs.Zed.{P, N, mul-P, mul-N, mag-of, fits-of}
 use Rattle.number.proofs.Ranges.{rd}
-use Rattle.timestamp.proofs.Instants.{sum-of, seconds, seconds-fit, more-seconds, more-fit}
+use Rattle.datetime.proofs.Instants.{sum-of, seconds, seconds-fit, more-seconds, more-fit}
 
 -- ---- a day z
 

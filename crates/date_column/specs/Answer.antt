@@ -11,7 +11,7 @@ use Rattle.number.specs.Widths.{floor}
 use Rattle.refusal.specs.Attempts.{retried}
 use Rattle.refusal.specs.Outcome.{Outcome, accepted, andThen}
 use Rattle.stamp_text.specs.Answer.{datetime}
-use Rattle.stamp_text.specs.Meaning.{instant}
+use Rattle.datetime.specs.Moment.{instant}
 
 -- Date32: the day number
 abbrev pub date32 : List ℕ → Outcome ℤ

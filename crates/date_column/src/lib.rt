@@ -1,11 +1,11 @@
 // Date columns. Each `parse` makes the table of year starts and lends it to its `parse_with`.
 use date::Named;
 use date::days;
+use datetime::NaiveDateTime;
 use refusal::Read32;
 use refusal::Read64;
 use text::trim::trim_pre_and_post_whitespace;
 use timestamp::DateTime;
-use timestamp::NaiveDateTime;
 use timestamp::stamp::string_to_datetime;
 ghost use mathlib.Core.Path.{_≡_};
 ghost use Prim.Native.Nat.{_≤_};
@@ -17,8 +17,7 @@ ghost use Rattle.date.specs.Answer.{dayNamed};
 ghost use Rattle.number.specs.Widths.{floor};
 ghost use Rattle.refusal.specs.Outcome.{accepted, andThen, outcome32, outcome64};
 ghost use Rattle.stamp_text.specs.Answer.{datetime};
-ghost use Rattle.timestamp.specs.Read.{momentOf};
-ghost use Rattle.stamp_text.specs.Meaning.{instant};
+ghost use Rattle.datetime.specs.Moment.{momentOf, instant};
 ghost use Rattle.clock.specs.Clock.{nanosOfDay};
 ghost use Rattle.date_column.specs.Answer.{millis, date32, date64};
 

@@ -10,7 +10,7 @@ use total::IntervalRead;
 use unit::IntervalUnit;
 ghost use mathlib.Core.Path.{_≡_};
 ghost use Rattle.refusal.specs.Outcome.{outcome32};
-ghost use Rattle.component.specs.Grammar.{precision};
+ghost use Rattle.amount.specs.Grammar.{precision};
 ghost use Rattle.unit.specs.declared.IntervalUnit.the-variants.{Year, Month, Day};
 ghost use Rattle.rule.specs.Answer.{monthDayNano, plainMonthDayNano, yearMonth, dayTime};
 ghost use Rattle.rule.specs.Meaning.{Means, Narrows, YearMonths, DayTimes};

@@ -9,8 +9,8 @@ use lib.Signed.{quotZ}
 use Rattle.number.specs.Widths.{signed}
 use Rattle.number.proofs.Zed.{P-neg, N-neg, add-pn, mul-P, mul-N, eq-of}
 use Rattle.text.proofs.Values.{ten-pos}
-use Rattle.component.specs.Grammar.{Value}
-use Rattle.component.specs.Read.{SameSign}
+use Rattle.amount.specs.Grammar.{Value}
+use Rattle.amount.specs.Read.{SameSign}
 use Rattle.rule.specs.Contribution.{times, wholeTimes, fracTimes}
 
 -- ---- a sign goes through products, quotients and sums

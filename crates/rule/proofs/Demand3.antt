@@ -17,12 +17,13 @@ use Rattle.number.specs.Widths.{inSigned}
 use Rattle.number.proofs.Zed.{abs-neg, abs-zero, eq-of, P-neg, N-neg, mul-P, mul-N}
 use Rattle.refusal.specs.Outcome.{Outcome, accepted, refused}
 use Rattle.unit.specs.Units.{rank}
-use Rattle.component.specs.Grammar.{Value, Amount, Component, Complete, glued, apart, Divides, bare, last, more}
+use Rattle.amount.specs.Grammar.{Value, Amount}
+use Rattle.component.specs.Grammar.{Component, Complete, glued, apart, Divides, bare, last, more}
 use Rattle.component.specs.Division.{divide}
-use Rattle.component.specs.Amount.{unitFor}
+use Rattle.component.specs.Spelled.{unitFor}
 use Rattle.unit.specs.declared.IntervalUnit.{IntervalUnit}
 use Rattle.unit.specs.declared.IntervalUnit.the-variants.{Year, Day}
-use Rattle.component.proofs.AmountLaws.{amount-value}
+use Rattle.amount.proofs.AmountLaws.{amount-value}
 use Rattle.component.proofs.Agreement.{agrees, unique, divided-utf8}
 use Rattle.unit.proofs.Numbering.{same-unit}
 use Rattle.rule.specs.Contribution.{Counts, counts, contribution, fits, plus, zeros}

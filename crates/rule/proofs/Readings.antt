@@ -12,9 +12,10 @@ use Rattle.refusal.specs.Outcome.{Outcome, accepted, refused}
 use Rattle.utf8.specs.Quoted.{bytes}
 use Rattle.text.proofs.Table.{Row, row, Readings}
 use Rattle.unit.specs.Units.{rank, spellings, same, oneOf, find, low, kelvin, lower, unitOf, present, isUnit, wordLen, orElse}
-use Rattle.component.specs.Grammar.{precision, wholeFits, scaled}
-use Rattle.component.specs.Division.{negative, signLen, pointLen, digitsLen, amountLen, endStep, unitStep, restStep, amountStep, step, before, then, divideBy, divide}
-use Rattle.component.specs.Amount.{fracOf, unsignedOf, amountOf, spelled, unitFor}
+use Rattle.amount.specs.Grammar.{precision, wholeFits, scaled}
+use Rattle.amount.specs.Scan.{negative, signLen, pointLen, digitsLen, amountLen, fracOf, unsignedOf, amountOf}
+use Rattle.component.specs.Division.{endStep, unitStep, restStep, amountStep, step, before, then, divideBy, divide}
+use Rattle.component.specs.Spelled.{spelled, unitFor}
 use Rattle.unit.specs.declared.IntervalUnit.{IntervalUnit}
 use Rattle.unit.specs.declared.IntervalUnit.the-variants.{Century, Month, Nanosecond}
 use Rattle.rule.specs.Contribution.{Counts, counts, times, wholeTimes, fracTimes, contribution, fits, plus}

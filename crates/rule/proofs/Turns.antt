@@ -11,7 +11,7 @@ use Rattle.refusal.specs.Outcome.{Outcome, refused}
 use Rattle.unit.specs.Units.{rank}
 use Rattle.component.specs.Grammar.{Component}
 use Rattle.component.specs.Division.{before}
-use Rattle.component.specs.Amount.{unitFor}
+use Rattle.component.specs.Spelled.{unitFor}
 use Rattle.unit.specs.declared.IntervalUnit.{IntervalUnit}
 use Rattle.rule.specs.Contribution.{Counts, fits, plus, zeros}
 use Rattle.rule.specs.Answer.{gives, totals, has, twice, onTotals, onDivision}

@@ -14,7 +14,8 @@ use Rattle.refusal.specs.Outcome.{Outcome, accepted, refused}
 use Rattle.unit.specs.Units.{rank}
 use Rattle.component.specs.Grammar.{Component}
 use Rattle.component.specs.Division.{divide}
-use Rattle.component.specs.Amount.{amountOf, unitFor}
+use Rattle.amount.specs.Scan.{amountOf}
+use Rattle.component.specs.Spelled.{unitFor}
 use Rattle.unit.specs.declared.IntervalUnit.{IntervalUnit}
 use Rattle.unit.specs.declared.IntervalUnit.the-variants.{Year, Month, Day}
 use Rattle.rule.specs.Contribution.{Counts, contribution, fits, plus, zeros}

@@ -6,7 +6,7 @@ use Prim.Native.Nat.{ℕ, _^_}
 use lib.IntN.{ℤ, pos, _+ℤ_, _*ℤ_}
 use lib.Signed.{quotZ}
 use Rattle.number.specs.Widths.{inSigned}
-use Rattle.component.specs.Grammar.{Value}
+use Rattle.amount.specs.Grammar.{Value}
 use Rattle.unit.specs.declared.IntervalUnit.{IntervalUnit}
 use Rattle.unit.specs.declared.IntervalUnit.the-variants.{Century, Decade, Year, Month, Week, Day, Hour, Minute, Second, Millisecond, Microsecond, Nanosecond}
 

@@ -9,8 +9,9 @@ use lib.IntN.{ℤ, pos, _+ℤ_, _*ℤ_}
 use Rattle.utf8.specs.Utf8.{Utf8}
 use Rattle.number.specs.Widths.{inSigned}
 use Rattle.refusal.specs.Outcome.{Outcome, accepted, refused}
-use Rattle.component.specs.Grammar.{Value, Amount, Component, Divides}
-use Rattle.component.specs.Amount.{unitFor}
+use Rattle.amount.specs.Grammar.{Value, Amount}
+use Rattle.component.specs.Grammar.{Component, Divides}
+use Rattle.component.specs.Spelled.{unitFor}
 use Rattle.unit.specs.declared.IntervalUnit.{IntervalUnit}
 use Rattle.rule.specs.Contribution.{Counts, counts, contribution, fits, plus, zeros}
 

@@ -21,7 +21,8 @@ use Rattle.text.proofs.Places.{not-sign, last-of}
 use Rattle.clock.proofs.Figures.{by-two, by-fields, size-of, seconds-end}
 use Rattle.stamp_text.specs.Grammar.{Ymd, FullDate, PartialTime, colons, basic, capital, Ending, none-given, capital-z, small-z, Stamp, date-alone, date-time}
 use Rattle.stamp_text.specs.Answer.{hasColons, stampNanos}
-use Rattle.stamp_text.specs.Meaning.{moment, instant, names, Reads, reads}
+use Rattle.datetime.specs.Moment.{moment, instant}
+use Rattle.stamp_text.specs.Meaning.{names, Reads, reads}
 use Rattle.site.specs.Site.{SiteStamp, site, SiteReads, site-reads, isLeap, isSite, siteNanos}
 use Rattle.stamp_text.proofs.Agreement.{seam, date-size, read-as}
 

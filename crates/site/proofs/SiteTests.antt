@@ -10,7 +10,7 @@ use Rattle.text.proofs.Bools.{and-false, by-test}
 use Rattle.text.proofs.TwoDigits.{sign, two-is, all-five}
 use Rattle.stamp_text.specs.Answer.{hasColons}
 use Rattle.site.specs.Site.{isSite}
-use Rattle.timestamp.proofs.Times.{ColonsRead, colonsTest, colons, cut-short}
+use Rattle.parser.proofs.Times.{ColonsRead, colonsTest, colons, cut-short}
 
 -- t is the byte at 10 and z the last one, less 48
 pub record SiteRead (s : List ℕ) (h a m b x t z : ℕ) : Type 0 where

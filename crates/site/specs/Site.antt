@@ -17,7 +17,8 @@ use Rattle.clock.specs.Clock.{Clock, clock, inRange, sinceMidnight}
 use Rattle.clock.specs.Grammar.{Figures, Secfrac}
 use Rattle.stamp_text.specs.Grammar.{Ymd, FullDate}
 use Rattle.stamp_text.specs.Answer.{hasColons, stampNanos}
-use Rattle.stamp_text.specs.Meaning.{moment, instant, Reads, Refuses}
+use Rattle.datetime.specs.Moment.{moment, instant}
+use Rattle.stamp_text.specs.Meaning.{Reads, Refuses}
 
 -- a text and the date and the time that it writes
 pub data SiteStamp : List ℕ → Ymd → Clock → Type 0 where

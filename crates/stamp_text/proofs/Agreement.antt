@@ -27,7 +27,8 @@ use Rattle.text.proofs.Places.{inside, ten}
 use Rattle.clock.proofs.Figures.{by-two, by-four, two-figures, four-figures, ascii-figures, ascii-secfrac}
 use Rattle.stamp_text.specs.Grammar.{Ymd, FullDate, full-date, PartialTime, colons, basic, Separator, capital, small, space, Ending, none-given, capital-z, small-z, Stamp, date-alone, date-time}
 use Rattle.stamp_text.specs.Answer.{isDate, dayOf, Timed, timeOf, isEnding, isSeparator, onTime, afterDate, onDate, plainMoment, datetime, inNanos, stampNanos}
-use Rattle.stamp_text.specs.Meaning.{Moment, moment, instant, Rfc3339, utc, Names, names, Reads, reads}
+use Rattle.datetime.specs.Moment.{Moment, moment, instant}
+use Rattle.stamp_text.specs.Meaning.{Rfc3339, utc, Names, names, Reads, reads}
 use Rattle.stamp_text.proofs.LongestTimes.{Ok, time-read, time-sound, before-ending, of-grammar}
 
 -- ---- a date is read

@@ -9,7 +9,8 @@ use Rattle.clock.specs.Clock.{Clock, nanosOf}
 use Rattle.clock.specs.Grammar.{fraction}
 use Rattle.clock.proofs.Bounds.{figures-most, secfrac-most, clock-most}
 use Rattle.stamp_text.specs.Grammar.{Ymd, full-date, PartialTime, colons, basic, Stamp, date-alone, date-time}
-use Rattle.stamp_text.specs.Meaning.{Moment, Names, names}
+use Rattle.datetime.specs.Moment.{Moment}
+use Rattle.stamp_text.specs.Meaning.{Names, names}
 
 time-most : {b : List ℕ} {c : Clock} → PartialTime b c → nanosOf (c .fraction) < 1000000000
 unfolding nanosOf value

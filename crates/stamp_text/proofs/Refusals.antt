@@ -20,7 +20,8 @@ use Rattle.refusal.proofs.Outcomes.{clash, same}
 use Rattle.text.proofs.Logic.{none-some}
 use Rattle.clock.specs.Clock.{Clock}
 use Rattle.stamp_text.specs.Answer.{isDate, dayOf, Timed, timeOf, isEnding, isSeparator, onTime, afterDate, onDate, plainMoment, datetime, inNanos, stampNanos}
-use Rattle.stamp_text.specs.Meaning.{Moment, instant, Dated, dated, LongestTime, Refuses, not-utf8, no-date, no-separator, no-time, more-after, out-of-range}
+use Rattle.datetime.specs.Moment.{Moment, instant}
+use Rattle.stamp_text.specs.Meaning.{Dated, dated, LongestTime, Refuses, not-utf8, no-date, no-separator, no-time, more-after, out-of-range}
 use Rattle.stamp_text.proofs.LongestTimes.{time-read, time-sound}
 use Rattle.stamp_text.proofs.Agreement.{agrees, seam, date-size, day-read, DateIs, date-sound, is-separator, separator-sound, is-ending, ending-sound}
 

@@ -6,13 +6,13 @@ use mathlib.Core.Option.{Option, none, some}
 use Prim.Native.Nat.{ℕ, _+_, _*_}
 use lib.Dec.{eqb}
 use lib.ListN.{length, getD, take, drop}
-use lib.IntN.{ℤ, pos, _+ℤ_, _*ℤ_}
+use lib.IntN.{ℤ, pos}
 use Rattle.calendar.specs.Calendar.{civil}
 use Rattle.number.specs.Widths.{inSigned}
 use Rattle.refusal.specs.Outcome.{Outcome, accepted, refused, inUtf8, andThen}
 use Rattle.text.specs.Digits.{isDigit, twoDigits, twoAt, run}
 use Rattle.clock.specs.Clock.{inRange, nanosOf}
-use Rattle.stamp_text.specs.Meaning.{Moment, moment, instant}
+use Rattle.datetime.specs.Moment.{Moment, moment, instant}
 
 -- the text begins with yyyy-mm-dd
 abbrev pub isDate : List ℕ → Bool

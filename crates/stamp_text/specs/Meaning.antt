@@ -8,13 +8,14 @@ use mathlib.Core.List.{List, [], _∷_, _++_}
 use mathlib.Core.Option.{some}
 use Prim.Native.Nat.{ℕ}
 use lib.ListN.{take}
-use lib.IntN.{ℤ, pos, _+ℤ_, _*ℤ_}
+use lib.IntN.{ℤ, pos}
 use Rattle.calendar.specs.Calendar.{civil}
 use Rattle.number.specs.Widths.{inSigned}
 use Rattle.text.specs.Digits.{isDigit, digits, value}
 use Rattle.utf8.specs.Utf8.{Utf8}
 use Rattle.clock.specs.Clock.{Clock, clock, inRange, sinceMidnight}
 use Rattle.clock.specs.Grammar.{Figures, Secfrac, noDigits}
+use Rattle.datetime.specs.Moment.{Moment, moment, instant}
 use Rattle.stamp_text.specs.Grammar.{Ymd, FullDate, Separator, Ending, Stamp}
 
 -- RFC 3339, section 5.6, its own date-time in UTC: full-date "T" partial-time "Z", the letters in either case, with colons
@@ -22,18 +23,6 @@ pub data Rfc3339 : List ℕ → Ymd → Clock → Type 0 where
   utc : (a h m s x f : List ℕ) (t z : ℕ) {d : Ymd} → FullDate a d → (t ≡ 0x54) ⊎ (t ≡ 0x74) → Figures 2 h → Figures 2 m → Figures 2 s
       → Secfrac x f → (z ≡ 0x5A) ⊎ (z ≡ 0x7A)
       → Rfc3339 (a ++ (t ∷ ((h ++ (0x3A ∷ (m ++ (0x3A ∷ (s ++ x))))) ++ (z ∷ [])))) d (clock (value 0 h) (value 0 m) (value 0 s) f)
-
--- a day, and the nanoseconds since its midnight
-pub record Moment : Type 0 where
-  pub day : ℤ
-  pub nanos : ℕ
-
-abbrev pub moment : ℤ → ℕ → Moment
-moment z n = record { day = z; nanos = n }
-
--- nanoseconds since 1970-01-01T00:00:00Z
-abbrev pub instant : Moment → ℤ
-instant m = m .day *ℤ pos 86400000000000 +ℤ pos (m .nanos)
 
 -- a text and the moment that it names
 pub data Names : List ℕ → Moment → Type 0 where

@@ -1,7 +1,3 @@
 -- Laws that belong to no one function.
-pub mod Dates
-pub mod Times
-pub mod Instants
-pub mod Fractions
 pub mod Endings
 pub mod Outcomes

@@ -14,7 +14,7 @@ use Rattle.refusal.proofs.Outcomes.{orRange}
 use Rattle.text.specs.Digits.{digitOf}
 use Rattle.text.proofs.Bools.{by-test}
 use Rattle.stamp_text.specs.Answer.{dayOf, timeOf, isSeparator, afterDate, onTime, onDate, plainMoment, inNanos}
-use Rattle.stamp_text.specs.Meaning.{Moment, moment, instant}
+use Rattle.datetime.specs.Moment.{Moment, moment, instant}
 use Rattle.text.proofs.TwoDigits.{sign-test}
 
 -- ---- after a date with the day number z

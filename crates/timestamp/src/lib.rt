@@ -1,21 +1,8 @@
 // Stamps: RFC 3339 timestamps in UTC, and the forms close to them that the Rust reads.
-use clock::NaiveTime;
+use datetime::NaiveDateTime;
 use refusal::Refusal;
 
-mod parser;
 pub mod stamp;
-
-// A time of day in a text and the place where it ends, or none.
-pub enum TimeAndEnd {
-    At(NaiveTime, usize),
-    None,
-}
-
-// A day, counted from 1970-01-01, and a time of it.
-pub struct NaiveDateTime {
-    pub day: i64,
-    pub time: NaiveTime,
-}
 
 // What a stamp names.
 pub enum DateTime {

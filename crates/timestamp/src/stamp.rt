@@ -1,11 +1,10 @@
 // Stamps.
 use crate::DateTime;
-use crate::NaiveDateTime;
-use crate::TimeAndEnd;
-use crate::parser;
 use calendar::Day;
 use clock::NaiveTime;
+use datetime::NaiveDateTime;
 use number::Int64;
+use parser::TimeAndEnd;
 use refusal::Read64;
 use refusal::Refusal;
 use text::digits::CAPITAL_T;
@@ -15,14 +14,12 @@ use text::digits::digit;
 ghost use mathlib.Core.Path.{_≡_};
 ghost use Prim.Native.Nat.{_≤_};
 ghost use lib.ListN.{length, drop};
-ghost use lib.IntN.{pos, _+ℤ_, _*ℤ_};
 ghost use Rattle.calendar.specs.Cycle.{YearStarts};
-ghost use Rattle.number.specs.Widths.{fit, int64};
 ghost use Rattle.refusal.specs.Outcome.{outcome64};
 ghost use Rattle.clock.specs.Clock.{nanosOfDay};
 ghost use Rattle.stamp_text.specs.Answer.{isEnding, plainMoment, afterDate, atEnd, datetime, stampNanos, inNanos};
-ghost use Rattle.timestamp.specs.Read.{momentOf, momentIs};
-ghost use Rattle.stamp_text.specs.Meaning.{instant};
+ghost use Rattle.datetime.specs.Moment.{momentOf, instant};
+ghost use Rattle.timestamp.specs.Read.{momentIs};
 
 // Reads a stamp in UTC
 // * `1997-01-31T09:26:56.123Z`        # RFC 3339
@@ -99,45 +96,10 @@ fn is_ending(s: &[u8], end: usize) -> bool
     (s[end] == b'Z') | (s[end] == b'z')
 }
 
-// Nanoseconds since 1970-01-01, where they fit.
-pub fn to_timestamp_nanos(dt: NaiveDateTime) -> Int64
-    ensures { λ r. ⌜ int64 r ≡ fit 63 (instant (momentOf dt)) ⌝ }
-{
-    let day = dt.day;
-    let time = dt.time;
-    if day < -200_000 {
-        return Int64::None;
-    }
-    if 200_000 < day {
-        return Int64::None;
-    }
-    nanos_of(day * 86_400 + time.secs as i64, time.frac)
-}
-
-// Seconds and nanoseconds, as nanoseconds, where they fit. The size is put together before the sign, so that the least number is reached.
-fn nanos_of(secs: i64, nanos: u32) -> Int64
-    ensures { λ r. ⌜ int64 r ≡ fit 63 (secs *ℤ pos 1000000000 +ℤ pos nanos) ⌝ }
-{
-    let m = number::sign::magnitude(secs);
-    if 9_300_000_000 < m {
-        return Int64::None;
-    }
-    let whole = m * 1_000_000_000;
-    let part = nanos as u64;
-    if 0 <= secs {
-        return number::sign::signed_i64(false, whole + part);
-    }
-    if part <= whole {
-        number::sign::signed_i64(true, whole - part)
-    } else {
-        number::sign::signed_i64(false, part - whole)
-    }
-}
-
 fn in_nanos(x: NaiveDateTime) -> Read64
     ensures { λ r. ⌜ outcome64 r ≡ inNanos (instant (momentOf x)) ⌝ }
 {
-    match to_timestamp_nanos(x) {
+    match datetime::to_timestamp_nanos(x) {
         Int64::Some(z) => Read64::Value(z),
         Int64::None => Read64::Refused(Refusal::Range),
     }

@@ -16,12 +16,12 @@ use Rattle.number.specs.Widths.{inSigned, fit}
 use Rattle.number.proofs.Zed.{abs-neg, abs-zero, size-pn, P, N, P-neg, N-neg, add-pn, mul-P, mul-N, lt-yes, lt-no, eq-of, fits-of}
 use Rattle.number.proofs.Ranges.{rd, fit-yes, fit-above, fit-below}
 use Rattle.number.proofs.Sizes.{small-fits, too-large}
-use Rattle.component.specs.Grammar.{precision}
-use Rattle.component.specs.declared.IntervalAmount.{IntervalAmount}
+use Rattle.amount.specs.Grammar.{precision}
+use Rattle.amount.specs.declared.IntervalAmount.{IntervalAmount}
 use Rattle.text.proofs.Values.{ten-pos}
-use Rattle.component.proofs.AmountLaws.{abs-signed}
-use Rattle.component.proofs.Amounts.{size-flips, size-minus}
-use Rattle.component.specs.Read.{valueOf, SameSign}
+use Rattle.amount.proofs.AmountLaws.{abs-signed}
+use Rattle.amount.proofs.Amounts.{size-flips, size-minus}
+use Rattle.amount.specs.Read.{valueOf, SameSign}
 use Rattle.rule.specs.Contribution.{Counts, counts, times, wholeTimes, fracTimes, fits, plus}
 use Rattle.total.specs.Helpers.{Most, together, fitting, added}
 use Rattle.rule.proofs.Cuts.{mul-signed, add-signed, part-signed, times-cut, frac-ratio}

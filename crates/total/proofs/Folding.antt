@@ -18,16 +18,16 @@ use Rattle.utf8.specs.Utf8.{utf8}
 use Rattle.text.proofs.Bools.{by-test}
 use Rattle.number.proofs.Ranges.{rd}
 use Rattle.refusal.specs.Outcome.{Outcome, refused, numberIn}
-use Rattle.unit.specs.Units.{rank}
-use Rattle.component.specs.Grammar.{precision, Component, valued}
+use Rattle.unit.specs.Units.{rank, orElse}
+use Rattle.amount.specs.Grammar.{precision, valued}
+use Rattle.component.specs.Grammar.{Component}
 use Rattle.component.specs.Division.{step, bad, before, divide}
-use Rattle.unit.specs.Units.{orElse}
-use Rattle.component.specs.Amount.{unitFor}
+use Rattle.component.specs.Spelled.{unitFor}
 use Rattle.component.specs.Read.{Holds, LastIs, MoreIs}
-use Rattle.component.specs.declared.IntervalAmount.{IntervalAmount}
+use Rattle.amount.specs.declared.IntervalAmount.{IntervalAmount}
 use Rattle.unit.specs.declared.IntervalUnit.{IntervalUnit}
 use Rattle.unit.specs.declared.IntervalUnit.the-variants.{Century, Decade, Year, Month, Week, Day, Hour, Minute, Second, Millisecond, Microsecond, Nanosecond}
-use Rattle.component.proofs.AmountLaws.{amount-value}
+use Rattle.amount.proofs.AmountLaws.{amount-value}
 use Rattle.component.proofs.Steps.{at-bad, at-last, at-more}
 use Rattle.rule.specs.Contribution.{Counts, contribution, zeros}
 use Rattle.rule.specs.Answer.{gives, onTotals, onDivision, monthDayNano}

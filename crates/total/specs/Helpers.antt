@@ -4,8 +4,8 @@ use mathlib.Core.Bool.{cond, _&&_}
 use mathlib.Core.Option.{Option, none, some}
 use Prim.Native.Nat.{ℕ, _+_, _*_, _^_, _≤_, _<_}
 use lib.IntN.{ℤ, natAbs}
-use Rattle.component.specs.Grammar.{precision}
-use Rattle.component.specs.Read.{SameSign}
+use Rattle.amount.specs.Grammar.{precision}
+use Rattle.amount.specs.Read.{SameSign}
 use Rattle.rule.specs.Contribution.{Counts, counts, fits, plus}
 use Rattle.total.specs.Read.{countsOf}
 use Rattle.total.specs.declared.Sum.{Sum}

@@ -12,7 +12,7 @@ use unit::IntervalUnit;
 ghost use mathlib.Core.Path.{_≡_};
 ghost use mathlib.Core.Bool.{cond};
 ghost use Rattle.refusal.specs.Outcome.{refused};
-ghost use Rattle.component.specs.Grammar.{precision};
+ghost use Rattle.amount.specs.Grammar.{precision};
 ghost use Rattle.rule.specs.Answer.{onTotals, monthDayNano};
 ghost use Rattle.total.specs.Read.{intervalOutcome};
 ghost use Rattle.total.specs.Helpers.{sumOf};

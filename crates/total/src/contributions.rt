@@ -1,7 +1,7 @@
 // What an amount of a unit adds to the counts of an interval: Rust's `Interval::add`.
 use crate::Interval;
 use crate::Sum;
-use component::IntervalAmount;
+use amount::IntervalAmount;
 use count::Days;
 use count::MaybeDays;
 use count::MaybeMonths;
@@ -17,8 +17,8 @@ ghost use Prim.Native.Nat.{_*_, _^_, _≤_, _<_};
 ghost use lib.IntN.{pos, natAbs, _+ℤ_, _*ℤ_};
 ghost use lib.Signed.{quotZ};
 ghost use Rattle.number.specs.Widths.{fit, int32, int64};
-ghost use Rattle.component.specs.Grammar.{precision, valued};
-ghost use Rattle.component.specs.Read.{valueOf, SameSign};
+ghost use Rattle.amount.specs.Grammar.{precision, valued};
+ghost use Rattle.amount.specs.Read.{valueOf, SameSign};
 ghost use Rattle.rule.specs.Contribution.{times, wholeTimes, fracTimes, contribution, counts as threeOf, plus};
 ghost use Rattle.total.specs.Read.{countsOf};
 ghost use Rattle.count.specs.Read.{maybeMonths, maybeDays, maybeNanos};

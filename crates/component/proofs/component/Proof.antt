@@ -2,7 +2,7 @@
 use mathlib.Core.Path.{refl}
 use native.Mathlib.Omega.{arith}
 use borrow.Author.Needs.{needs}
-use Rattle.component.specs.Grammar.{precision}
+use Rattle.amount.specs.Grammar.{precision}
 use Rattle.component.specs.Read.{pieceIs, placeAfter, takenIs}
 use Rattle.component.proofs.Steps.{past-end}
 use Rattle.component.proofs.component.Statement.{statement}

@@ -5,8 +5,8 @@ use lib.IntN.{ℤ}
 use mir.Facts.{toZ-ofZ}
 use Rattle.refusal.specs.Outcome.{Outcome, accepted, andThen}
 use Rattle.stamp_text.specs.Answer.{datetime}
-use Rattle.timestamp.specs.Read.{momentOf, momentIs}
-use Rattle.stamp_text.specs.Meaning.{Moment, instant}
+use Rattle.datetime.specs.Moment.{momentOf, Moment, instant}
+use Rattle.timestamp.specs.Read.{momentIs}
 use Rattle.stamp_text.proofs.Agreement.{agrees}
 use Rattle.stamp_text.proofs.Bounds.{moment-most}
 use Rattle.date_column.specs.Answer.{millis}

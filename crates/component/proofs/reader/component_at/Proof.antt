@@ -42,7 +42,7 @@ use denote.Triple.Table.{entered, cited}
 use denote.Triple.Walked.{says, needs, Stays, stay-none, stay-none-slice, walkOf, goes-none, goes-none-slice, Walks, ends-at, walked, walk-meets}
 use denote.Exit.{yes}
 use denote.Triple.Clauses.{ensured, lasts}
-use Rattle.component.specs.Grammar.{precision}
+use Rattle.amount.specs.Grammar.{precision}
 use Rattle.component.specs.Read.{pieceIs, placeAfter, takenIs}
 use Rattle.component.specs.declared.Piece.{Piece}
 use Rattle.component.specs.declared.Taken.{Taken}

@@ -1,8 +1,8 @@
 -- `component::split::split_interval_component` meets its contract: an amount and what follows it, or no amount. Assumes nothing.
 use borrow.Author.Needs.{needs}
-use Rattle.component.specs.Grammar.{precision}
+use Rattle.amount.specs.Grammar.{precision}
 use Rattle.component.specs.Read.{pieceIs}
-use Rattle.component.specs.Found.{amountIs}
+use Rattle.amount.specs.Read.{amountIs}
 use Rattle.component.proofs.Steps.{no-amount}
 use Rattle.component.proofs.split.split_interval_component.Statement.{statement}
 use Rattle.component.proofs.split.split_interval_component.Tie as tie

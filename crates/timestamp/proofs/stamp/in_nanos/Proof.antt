@@ -5,8 +5,7 @@ use mir.Facts.{toZ-ofZ}
 use borrow.Author.Needs.{needs}
 use Rattle.number.specs.Widths.{int64}
 use Rattle.refusal.proofs.Outcomes.{orRange}
-use Rattle.timestamp.specs.Read.{momentOf}
-use Rattle.stamp_text.specs.Meaning.{instant}
+use Rattle.datetime.specs.Moment.{momentOf, instant}
 use Rattle.timestamp.proofs.Outcomes.{in-range}
 use Rattle.timestamp.proofs.stamp.in_nanos.Statement.{statement}
 use Rattle.timestamp.proofs.stamp.in_nanos.Tie as tie

@@ -5,7 +5,7 @@ use mir.Syntax.{w64}
 use borrow.Author.Needs.{needs}
 use Rattle.calendar.specs.Calendar.{day}
 use Rattle.timestamp.proofs.Outcomes.{after-day}
-use Rattle.timestamp.proofs.Dates.{short-of-date}
+use Rattle.parser.proofs.Dates.{short-of-date}
 use Rattle.timestamp.proofs.stamp.plain.Statement.{statement}
 use Rattle.timestamp.proofs.stamp.plain.Tie as tie
 

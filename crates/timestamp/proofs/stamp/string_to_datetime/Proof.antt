@@ -4,7 +4,8 @@ use borrow.Author.Needs.{needs}
 use Rattle.refusal.specs.Outcome.{accepted}
 use Rattle.refusal.proofs.Outcomes.{refused-in}
 use Rattle.stamp_text.specs.Answer.{plainMoment}
-use Rattle.timestamp.specs.Read.{momentOf, momentIs}
+use Rattle.datetime.specs.Moment.{momentOf}
+use Rattle.timestamp.specs.Read.{momentIs}
 use Rattle.stamp_text.proofs.Agreement.{read-utf8}
 use Rattle.timestamp.proofs.stamp.string_to_datetime.Statement.{statement}
 use Rattle.timestamp.proofs.stamp.string_to_datetime.Tie as tie

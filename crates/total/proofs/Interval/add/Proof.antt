@@ -1,8 +1,8 @@
 -- `total::Interval::add` meets its contract: the contribution fits and goes to the totals, or it does not. Assumes nothing.
 use borrow.Author.Needs.{needs}
 use mathlib.Core.Path.{sym, ap, _∙_}
-use Rattle.component.specs.Grammar.{precision}
-use Rattle.component.specs.Read.{valueOf}
+use Rattle.amount.specs.Grammar.{precision}
+use Rattle.amount.specs.Read.{valueOf}
 use Rattle.total.specs.Read.{countsOf}
 use Rattle.rule.specs.Contribution.{contribution}
 use Rattle.total.specs.Helpers.{sumOf}

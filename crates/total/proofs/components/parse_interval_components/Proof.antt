@@ -9,7 +9,7 @@ use mir.Val.{SFits}
 use borrow.Author.Needs.{needs}
 use mathlib.Core.Bool.{true}
 use Rattle.unit.specs.Read.{unitRead}
-use Rattle.component.specs.Grammar.{precision}
+use Rattle.amount.specs.Grammar.{precision}
 use Rattle.component.specs.Read.{LastIs, MoreIs, pieceIs, placeAfter, takenIs}
 use Rattle.total.specs.Helpers.{sumOf}
 use Rattle.total.proofs.Folding.{Goes, rank-below, proper, starts, bad-answer, last-answer, more-goes}

@@ -6,8 +6,8 @@ use lib.IntN.{pos}
 use mir.Syntax.{w64}
 use mir.Val.{SFits}
 use Rattle.number.specs.Widths.{fit}
-use Rattle.component.specs.Grammar.{precision}
-use Rattle.component.specs.Read.{valueOf}
+use Rattle.amount.specs.Grammar.{precision}
+use Rattle.amount.specs.Read.{valueOf}
 use Rattle.rule.specs.Contribution.{wholeTimes, fracTimes}
 use Rattle.total.proofs.Adding.{part-most, cut-whole, cut-days, three}
 use Rattle.total.proofs.contributions.months_and_days.Statement.{statement}

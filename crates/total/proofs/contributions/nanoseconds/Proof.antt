@@ -4,8 +4,8 @@ use mathlib.Core.Path.{refl, _∙_}
 use lib.IntN.{pos}
 use mir.Syntax.{w64}
 use mir.Val.{SFits}
-use Rattle.component.specs.Grammar.{precision}
-use Rattle.component.specs.Read.{valueOf}
+use Rattle.amount.specs.Grammar.{precision}
+use Rattle.amount.specs.Read.{valueOf}
 use Rattle.rule.specs.Contribution.{times}
 use Rattle.total.proofs.Adding.{whole-fits, three}
 use Rattle.total.proofs.contributions.nanoseconds.Statement.{statement}
