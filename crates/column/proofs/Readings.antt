@@ -6,7 +6,8 @@ use Prim.Native.Nat.{ℕ}
 use Prim.Native.String.{String}
 use lib.IntN.{ℤ, pos, negℤ}
 use Rattle.calendar.specs.Calendar.{span, before}
-use Rattle.date.specs.Answer.{toHyphen, extendedYmd, shortDay, plainDay}
+use Rattle.ymd.specs.Forms.{toHyphen, extendedYmd, shortDay}
+use Rattle.date.specs.Answer.{plainDay}
 use Rattle.clock.specs.Grammar.{noDigits}
 use Rattle.refusal.specs.Outcome.{Outcome, accepted, refused}
 use Rattle.text.specs.Digits.{digits, value, run}

@@ -17,7 +17,8 @@ use Rattle.component.specs.Grammar.{Component}
 use Rattle.amount.specs.Grammar.{precision}
 use Rattle.unit.specs.declared.IntervalUnit.{IntervalUnit}
 use Rattle.unit.specs.declared.IntervalUnit.the-variants.{Year, Month, Day}
-use Rattle.date.specs.Answer.{isSign, onDay, signedDay, shortDay, plainDay, dayNamed, inDays, dateDays}
+use Rattle.date.specs.Answer.{isSign, onDay, signedDay, plainDay, dayNamed, inDays, dateDays}
+use Rattle.ymd.specs.Forms.{shortDay}
 use Rattle.date_column.specs.Answer.{millis}
 use Rattle.rule.specs.Answer.{totals, twice, onTotals, onDivision, monthDayNano, toYearMonths, toDayTime, orNarrowed, narrowed, yearMonth, dayTime, plainMonthDayNano}
 use Rattle.rule.specs.Contribution.{Counts, zeros}

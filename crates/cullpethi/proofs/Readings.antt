@@ -15,7 +15,8 @@ use Rattle.refusal.specs.Outcome.{Outcome, accepted, refused, andThen}
 use Rattle.calendar.specs.Calendar.{span, before as beforeMonth}
 use Rattle.clock.specs.Clock.{nanosOf}
 use Rattle.time.specs.Answer.{timeOfDay, timeNanos}
-use Rattle.date.specs.Answer.{toHyphen, extendedYmd, shortDay, plainDay}
+use Rattle.ymd.specs.Forms.{toHyphen, extendedYmd, shortDay}
+use Rattle.date.specs.Answer.{plainDay}
 use Rattle.clock.specs.Grammar.{noDigits}
 use Rattle.column.specs.Columns.{Date32, column}
 use Rattle.unit.specs.Units.{rank, spellings, same, oneOf, find, low, kelvin, lower, unitOf, present, isUnit, wordLen, orElse}

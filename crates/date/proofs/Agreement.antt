@@ -33,7 +33,8 @@ use Rattle.datetime.specs.Moment.{Moment}
 use Rattle.stamp_text.proofs.Agreement as Stamps
 use Rattle.date.specs.Grammar.{OneOrTwo, one, two, Sign, DateText, compact, hyphens, signed, NamesDay, of-date, of-stamp, Reads, reads}
 use Rattle.date.specs.Grammar as Grammar
-use Rattle.date.specs.Answer.{isSign, toHyphen, numbers, monthDay, extendedYmd, dayWith, signedDay, fourDigits, fourAt, compactDay, lastDay, hyphenDay, shortDay, onDay, plainDay, dayNamed, inDays, dateDays}
+use Rattle.date.specs.Answer.{isSign, dayWith, signedDay, onDay, plainDay, dayNamed, inDays, dateDays}
+use Rattle.ymd.specs.Forms.{toHyphen, numbers, monthDay, extendedYmd, fourDigits, fourAt, compactDay, lastDay, hyphenDay, shortDay}
 
 -- ---- the signed form is read
 

@@ -13,7 +13,8 @@ use Rattle.text.proofs.Bools.{by-test}
 use Rattle.refusal.proofs.Outcomes.{orRange}
 use Rattle.stamp_text.specs.Answer.{datetime}
 use Rattle.datetime.specs.Moment.{Moment}
-use Rattle.date.specs.Answer.{isSign, signedDay, shortDay, onDay, plainDay, dayNamed, inDays}
+use Rattle.date.specs.Answer.{isSign, signedDay, onDay, plainDay, dayNamed, inDays}
+use Rattle.ymd.specs.Forms.{shortDay}
 
 -- ---- in days
 

@@ -22,7 +22,8 @@ use Rattle.stamp_text.specs.Meaning.{Refuses as StampRefuses, not-utf8 as st-no
 use Rattle.stamp_text.proofs.Agreement as Stamps
 use Rattle.stamp_text.proofs.Refusals.{refusals as stamp-refusals}
 use Rattle.date.specs.Grammar.{plus, minus, NamesDay, DateForm, with-sign, within-ten, Refuses, not-utf8, no-date, as-stamp, out-of-range}
-use Rattle.date.specs.Answer.{isSign, signedDay, shortDay, onDay, plainDay, dayNamed, inDays, dateDays}
+use Rattle.date.specs.Answer.{isSign, signedDay, onDay, plainDay, dayNamed, inDays, dateDays}
+use Rattle.ymd.specs.Forms.{shortDay}
 use Rattle.date.proofs.Outcomes.{signed-form, short-form, stamp-form, itsDay}
 use Rattle.date.proofs.Agreement.{agrees}
 

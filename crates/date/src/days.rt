@@ -1,8 +1,5 @@
 // Days of dates.
 use crate::Named;
-use crate::Ymd;
-use crate::extended;
-use crate::short;
 use calendar::Day;
 use number::Int32;
 use refusal::Read32;
@@ -10,6 +7,7 @@ use refusal::Refusal;
 use text::byte_at;
 use text::digits::digit;
 use timestamp::DateTime;
+use ymd::Ymd;
 ghost use mathlib.Core.Path.{_≡_};
 ghost use Prim.Native.Nat.{_-_};
 ghost use lib.ListN.{length, getD};
@@ -31,7 +29,7 @@ pub fn parse_date(starts: &[u32; 401], s: &[u8]) -> Named
         return of_text(s, extended_day(starts, s));
     }
     if s.len() <= 10 {
-        return of_text(s, short::short_day(starts, s));
+        return of_text(s, ymd::short_day(starts, s));
     }
     stamp_day(starts, s)
 }
@@ -87,7 +85,7 @@ fn extended_day(starts: &[u32; 401], s: &[u8]) -> Day
     requires { ⌜ YearStarts (now starts) ⌝ }
     ensures { λ r. ⌜ day r ≡ signedDay (now (s .entry)) ⌝ }
 {
-    match extended::parse_extended_ymd(s) {
+    match ymd::parse_extended_ymd(s) {
         Ymd::Of(y, m, d) => calendar::days_from_ymd(starts, y, m, d),
         Ymd::None => Day::None,
     }

@@ -1,11 +1,20 @@
 -- `date::days::ends_in_digit` meets its contract, by the laws of the last byte. Assumes nothing.
-use Prim.Native.Nat.{_-_}
+use mathlib.Core.Path.{_≡_, refl}
+use mathlib.Core.Bool.{false}
+use mathlib.Core.List.{List, [], _∷_}
+use Prim.Native.Nat.{ℕ, _-_, _<_}
+use native.Mathlib.Omega.{arith}
 use lib.ListN.{length, getD}
 use borrow.Author.Needs.{needs}
+use Rattle.text.specs.Digits.{isDigit}
 use Rattle.text.proofs.TwoDigits.{digit-below}
-use Rattle.date.proofs.Shapes.{no-end}
 use Rattle.date.proofs.days.ends_in_digit.Statement.{statement}
 use Rattle.date.proofs.days.ends_in_digit.Tie as tie
+
+-- an empty text does not end in a digit
+no-end : (s : List ℕ) → length s < 1 → false ≡ isDigit (getD s (length s - 1) 0)
+no-end [] h = refl
+no-end (b ∷ s) h = absurd (omega arith)
 
 returns : tie.Need-returns
 returns c = no-end (c .before .before .args .s .now) (c .if1 .taken)

@@ -6,7 +6,7 @@ use mir.Facts.{toZ-ofZ}
 use borrow.Author.Needs.{needs}
 use Rattle.calendar.specs.Calendar.{civil}
 use Rattle.date.specs.Answer.{dayWith}
-use Rattle.date.specs.Helpers.{ymdIs}
+use Rattle.ymd.specs.Read.{ymdIs}
 use Rattle.date.proofs.days.extended_day.Statement.{statement}
 use Rattle.date.proofs.days.extended_day.Tie as tie
 
