@@ -16,5 +16,6 @@ moment z n = record { day = z; nanos = n }
 abbrev pub instant : Moment → ℤ
 instant m = m .day *ℤ pos 86400000000000 +ℤ pos (m .nanos)
 
+-- the moment that the code's `NaiveDateTime` holds
 abbrev pub momentOf : NaiveDateTime → Moment
 momentOf x = moment (x .day) (nanosOfDay (x .time))
