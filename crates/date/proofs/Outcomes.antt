@@ -1,11 +1,12 @@
 -- Answers put together: of a text by its first byte and its length, and in days. Assumes nothing.
-use mathlib.Core.Path.{_≡_, ap}
-use mathlib.Core.Bool.{true, false}
+use mathlib.Core.Path.{_≡_, sym, ap}
+use mathlib.Core.Bool.{Bool, true, false, cond, _||_, false≢true}
 use mathlib.Core.List.{List}
 use Prim.Native.Nat.{ℕ, _≤_, _<_}
+use lib.Dec.{leb}
 use lib.ListN.{getD, length}
 use lib.IntN.{ℤ}
-use borrow.Author.Tests.{le-leb, lt-leb}
+use borrow.Author.Tests.{leb-true, leb-false, le-leb, lt-leb}
 use Rattle.number.specs.Widths.{inSigned, fit}
 use Rattle.refusal.specs.Outcome.{Outcome, accepted, refused, andThen}
 use Rattle.utf8.specs.Utf8.{utf8}
@@ -43,6 +44,16 @@ module _ (s : List ℕ) where
   pub stamp-form : isSign (getD s 0 0) ≡ false → 10 < length s → itsDay (datetime s) ≡ dayNamed s
   unfolding plainDay
   stamp-form e l = rw (e, lt-leb (length s) 10 l) (by-test (utf8 s) (λ u. rw u) (λ u. rw u))
+
+  -- by one test of the sign and the length: one of the first two, or the third
+  pub date-form : (b : Bool) → isSign (getD s 0 0) ≡ b → b || leb (length s) 10 ≡ true
+      → onDay (cond b (signedDay s) (shortDay s)) ≡ plainDay s
+  date-form true e t = signed-form e
+  date-form false e t = short-form e (leb-true (length s) 10 t)
+
+  pub no-date-form : (b : Bool) → isSign (getD s 0 0) ≡ b → b || leb (length s) 10 ≡ false → itsDay (datetime s) ≡ dayNamed s
+  no-date-form true e t = absurd (false≢true (sym t))
+  no-date-form false e t = stamp-form e (leb-false (length s) 10 t)
 
   -- UTF-8 comes first
   pub is-utf8 : {z : ℤ} → accepted z ≡ plainDay s → utf8 s ≡ true → accepted z ≡ dayNamed s

@@ -9,6 +9,7 @@ use text::digits::digit;
 use timestamp::DateTime;
 use ymd::Ymd;
 ghost use mathlib.Core.Path.{_≡_};
+ghost use mathlib.Core.Bool.{cond};
 ghost use Prim.Native.Nat.{_-_};
 ghost use lib.ListN.{length, getD};
 ghost use Rattle.calendar.specs.Calendar.{day};
@@ -16,22 +17,33 @@ ghost use Rattle.calendar.specs.Cycle.{YearStarts};
 ghost use Rattle.refusal.specs.Outcome.{accepted, andThen, outcome32};
 ghost use Rattle.text.specs.Digits.{isDigit};
 ghost use Rattle.stamp_text.specs.Answer.{datetime};
+ghost use Rattle.ymd.specs.Forms.{shortDay};
 ghost use Rattle.date.specs.Answer.{signedDay, onDay, inDays, plainDay, dayNamed, dateDays, namedIs};
 
-// The day that a text names: a signed date, a date of at most 10 bytes, or the date of a stamp.
+// The day that a text names: a signed date, a date of at most 10 bytes, or the date of a stamp. `of_text` is called once, so that it is laid
+// in here and the text is not copied for it: the copy would wait for the stores of the whole table.
 pub fn parse_date(starts: &[u32; 401], s: &[u8]) -> Named
     requires { ⌜ YearStarts (now starts) ⌝ }
     ensures { λ r. ⌜ namedIs r ≡ dayNamed (now (s .entry)) ⌝ }
 {
     let first = byte_at(s, 0);
     let sign = (first == b'+') | (first == b'-');
-    if sign {
-        return of_text(s, extended_day(starts, s));
-    }
-    if s.len() <= 10 {
-        return of_text(s, ymd::short_day(starts, s));
+    if sign | (s.len() <= 10) {
+        return of_text(s, form_day(starts, s, sign));
     }
     stamp_day(starts, s)
+}
+
+// The day of the form with a sign, or of one of at most 10 bytes.
+fn form_day(starts: &[u32; 401], s: &[u8], sign: bool) -> Day
+    requires { ⌜ YearStarts (now starts) ⌝ }
+    ensures { λ r. ⌜ day r ≡ cond sign (signedDay (now (s .entry))) (shortDay (now (s .entry))) ⌝ }
+{
+    if sign {
+        extended_day(starts, s)
+    } else {
+        ymd::short_day(starts, s)
+    }
 }
 
 // The date of a stamp.

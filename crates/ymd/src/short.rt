@@ -11,7 +11,14 @@ ghost use lib.IntN.{pos};
 ghost use Rattle.calendar.specs.Calendar.{civil, day};
 ghost use Rattle.calendar.specs.Cycle.{YearStarts};
 ghost use Rattle.clock.specs.Grammar.{noDigits};
+ghost use Rattle.ymd.specs.Helpers.{beforeIs};
 ghost use Rattle.ymd.specs.Forms.{compactDay, lastDay, hyphenDay};
+
+// The place where a day begins, behind a century, a year and a month; or none.
+pub enum BeforeDay {
+    At(usize, u8, u8, u8),
+    None,
+}
 
 // yyyymmdd
 pub fn compact_day(starts: &[u32; 401], s: &[u8]) -> Day
@@ -30,23 +37,33 @@ pub fn compact_day(starts: &[u32; 401], s: &[u8]) -> Day
     of_fields(starts, century, year, month, day_of_month)
 }
 
-// yyyy-m-d, with one or two digits for the month and the day.
+// yyyy-m-d, with one or two digits for the month and the day. `last_day` is called once, so that it is laid in here.
 pub fn hyphen_day(starts: &[u32; 401], s: &[u8]) -> Day
     requires { ⌜ YearStarts (now starts) ⌝ }
     ensures { λ r. ⌜ day r ≡ hyphenDay (now (s .entry)) ⌝ }
+{
+    match before_day(s) {
+        BeforeDay::At(at, century, year, month) => last_day(starts, s, at, century, year, month),
+        BeforeDay::None => Day::None,
+    }
+}
+
+// What stands before the day of a date with hyphens.
+fn before_day(s: &[u8]) -> BeforeDay
+    ensures { λ r. ⌜ beforeIs (now (s .entry)) r ⌝ }
 {
     let century = two(s, 0);
     let year = two(s, 2);
     let four = (century < 100) & (year < 100);
     let month = two(s, 5);
     if four & ((month < 100) & (digit(byte_at(s, 7)) == HYPHEN)) {
-        return last_day(starts, s, 8, century, year, month);
+        return BeforeDay::At(8, century, year, month);
     }
     let one = digit(byte_at(s, 5));
     if four & ((one < 10) & (digit(byte_at(s, 6)) == HYPHEN)) {
-        return last_day(starts, s, 7, century, year, one);
+        return BeforeDay::At(7, century, year, one);
     }
-    Day::None
+    BeforeDay::None
 }
 
 // One or two digits from a place on, and no digit after them.

@@ -1,112 +1,40 @@
--- `ymd::short::hyphen_day` meets its contract, by the laws of a date with hyphens. Assumes nothing.
-use mathlib.Core.Path.{ap, _∙_}
-use mathlib.Core.Bool.{_&&_}
-use lib.Dec.{ltb, eqb}
+-- `ymd::short::hyphen_day` meets its contract, by what stands before the day. Assumes nothing.
+use mathlib.Core.Path.{subst, _∙_}
 use borrow.Author.Needs.{needs}
-use Rattle.text.specs.Digits.{digitOf}
-use Rattle.ymd.proofs.Shapes.{HyphensRead, after-two, after-one, no-month, below-100}
+use Rattle.ymd.specs.Helpers.{beforeIs}
+use Rattle.ymd.specs.declared.short.BeforeDay.the-variants.{At as DayAt}
 use Rattle.ymd.proofs.short.hyphen_day.Statement.{statement}
 use Rattle.ymd.proofs.short.hyphen_day.Tie as tie
 
--- from where the month is read back to the numbers
-abbrev numbers : tie.After-digit → tie.After-two3
-numbers c = c .before .before
+-- what was found, taken apart
+found :
+    (c : tie.After-known-told) →
+    beforeIs (c .before .before .before .before .before .args .s .now)
+    (DayAt (c .before .at .given .0 .0) (c .before .at .given .0 .1 .0) (c .before .at .given .0 .1 .1 .0) (c .before .at .given .0 .1 .1 .1 .0))
+found c =
+    subst (beforeIs (c .before .before .before .before .before .args .s .now)) (c .before .at .given .1)
+    (c .before .before .before .before-day .ensures)
 
-abbrev start : tie.After-digit → tie.After-shared-slice-known
-start c = numbers c .before .before .before
+before-day-requires : tie.Need-before-day-requires
+before-day-requires c κs = search needs
 
-values :
-    (c : tie.After-digit) →
-    HyphensRead (start c .before .args .s .now) (numbers c .before .before .two .result) (numbers c .before .two2 .result)
-    (numbers c .two3 .result) (c .digit .result)
-values c =
-    let k = numbers c in
-    record {
-      century = k .before .before .two .ensures;
-      year = k .before .two2 .ensures;
-      month = k .two3 .ensures;
-      hyphen = c .digit .ensures ∙ ap digitOf (c .before .byte-at .ensures);
-    }
-
-two-requires : tie.Need-two-requires
-two-requires c κs = search needs
-
-two-requires-2 : tie.Need-two-requires-2
-two-requires-2 c κs = search needs
-
-two-requires-3 : tie.Need-two-requires-3
-two-requires-3 c κs = search needs
-
-byte-at-requires : tie.Need-byte-at-requires
-byte-at-requires c κs = search needs
-
-digit-requires : tie.Need-digit-requires
-digit-requires c κs = search needs
+enum-known-at : tie.Need-enum-known-at
+enum-known-at c = search needs
 
 last-day-requires : tie.Need-last-day-requires
-last-day-requires c κs =
-    let k = numbers (c .before) in
-    let l = below-100 (k .before .before .two .result) (k .before .two2 .result) (ltb (k .two3 .result) 100 && eqb (c .before .digit .result) 253) (c .if1 .taken) in
-    search (l, needs)
+last-day-requires c κs = (c .before .before .before .before .before .pre, found c .0)
+
+enum-told : tie.Need-enum-told
+enum-told c = search needs
 
 returns : tie.Need-returns
-returns c =
-    let d = c .before .before in
-    c .last-day .ensures ∙ after-two (λ i. start d .shared-slice-known .given i .fits) (values d) (c .before .if1 .taken)
-
-byte-at-requires-2 : tie.Need-byte-at-requires-2
-byte-at-requires-2 c κs = search needs
-
-digit-requires-2 : tie.Need-digit-requires-2
-digit-requires-2 c κs = search needs
-
-byte-at-requires-3 : tie.Need-byte-at-requires-3
-byte-at-requires-3 c κs = search needs
-
-digit-requires-3 : tie.Need-digit-requires-3
-digit-requires-3 c κs = search needs
-
-last-day-requires-2 : tie.Need-last-day-requires-2
-last-day-requires-2 c κs =
-    let o = c .before .before .before in
-    let k = numbers (o .before .before .before) in
-    let l = below-100 (k .before .before .two .result) (k .before .two2 .result) (ltb (o .digit2 .result) 10 && eqb (c .before .digit3 .result) 253) (c .if2 .taken) in
-    search (l, needs)
+returns c = c .last-day .ensures ∙ found (c .before) .1
 
 returns-2 : tie.Need-returns-2
 returns-2 c =
-    let e = c .before .before in
-    let o = e .before .before in
-    let i = o .before .before in
-    let d = i .before in
-    c .last-day2 .ensures ∙
-    after-one (λ j. start d .shared-slice-known .given j .fits) (values d) (i .if1 .left) (o .digit2 .ensures ∙ ap digitOf (o .before .byte-at2 .ensures))
-    (e .digit3 .ensures ∙ ap digitOf (e .before .byte-at3 .ensures)) (c .before .if2 .taken)
-
-returns-3 : tie.Need-returns-3
-returns-3 c =
-    let e = c .before in
-    let o = e .before .before in
-    let i = o .before .before in
-    let d = i .before in
-    no-month (λ j. start d .shared-slice-known .given j .fits) (values d) (i .if1 .left) (o .digit2 .ensures ∙ ap digitOf (o .before .byte-at2 .ensures))
-    (e .digit3 .ensures ∙ ap digitOf (e .before .byte-at3 .ensures)) (c .if2 .left)
+    subst (beforeIs (c .before .before .before .before .args .s .now)) (c .enum-told .given .1) (c .before .before .before-day .ensures)
 
 pub hyphen-day-spec : {M : Type 1} → statement M
 hyphen-day-spec =
     tie.close
-    (tie.spec
-    two-requires
-    two-requires-2
-    two-requires-3
-    byte-at-requires
-    digit-requires
-    last-day-requires
-    returns
-    byte-at-requires-2
-    digit-requires-2
-    byte-at-requires-3
-    digit-requires-3
-    last-day-requires-2
-    returns-2
-    returns-3)
+    (tie.spec before-day-requires enum-known-at last-day-requires enum-told returns returns-2)
