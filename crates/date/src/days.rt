@@ -21,7 +21,7 @@ ghost use Rattle.ymd.specs.Forms.{shortDay};
 ghost use Rattle.date.specs.Answer.{signedDay, onDay, inDays, plainDay, dayNamed, dateDays, namedIs};
 
 // The day that a text names: a signed date, a date of at most 10 bytes, or the date of a stamp. `of_text` is called once, so that it is laid
-// in here and the text is not copied for it: the copy would wait for the stores of the whole table.
+// in here and the text is not copied for it.
 pub fn parse_date(starts: &[u32; 401], s: &[u8]) -> Named
     requires { ⌜ YearStarts (now starts) ⌝ }
     ensures { λ r. ⌜ namedIs r ≡ dayNamed (now (s .entry)) ⌝ }
