@@ -35,7 +35,9 @@ use Rattle.stamp_text.specs.Answer.{datetime, stampNanos}
 use Rattle.datetime.specs.Moment.{Moment, instant}
 use Rattle.stamp_text.proofs.Agreement as Stamps
 use Rattle.stamp_text.proofs.Refusals as StampRefusals
-use Rattle.column.specs.Columns.{Column, TimestampNanosecond, TimestampMicrosecond, TimestampMillisecond, TimestampSecond, Time64Nanosecond, Time64Microsecond, Time32Millisecond, Time32Second, Date32, Date64, column}
+use Rattle.column.specs.Columns.{column}
+use Rattle.column.specs.declared.Column.{Column}
+use Rattle.column.specs.declared.Column.the-variants.{TimestampNanosecond, TimestampMicrosecond, TimestampMillisecond, TimestampSecond, Time64Nanosecond, Time64Microsecond, Time32Millisecond, Time32Second, Date32, Date64}
 use Rattle.column.specs.Meaning.{TimestampColumn, nanoseconds, microseconds, milliseconds, seconds, TimeColumn, nanoseconds-64, microseconds-64, milliseconds-32, seconds-32, ReaderReads, of-stamp, of-time, of-date, up-to-ten, beyond-ten, ReaderRefuses, no-stamp, no-time, no-date, no-date-up-to-ten, no-stamp-beyond-ten, ReadsGiven, by-reader, as-integer, Reads, as-given, once-trimmed, Refuses, never-trimmed, trimmed-too}
 
 -- ---- the four kinds of columns

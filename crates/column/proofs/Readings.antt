@@ -19,7 +19,9 @@ use Rattle.white.specs.WhiteSpace.{white1, white2, white3, whiteOf}
 use Rattle.time.specs.Answer.{timeOfDay, timeNanos}
 use Rattle.stamp_text.specs.Answer.{dayOf, timeOf, plainMoment}
 use Rattle.clock.specs.Clock.{nanosOf}
-use Rattle.column.specs.Columns.{Column, TimestampNanosecond, TimestampMicrosecond, TimestampMillisecond, TimestampSecond, Time64Nanosecond, Time64Microsecond, Time32Millisecond, Time32Second, Date32, Date64, column}
+use Rattle.column.specs.Columns.{column}
+use Rattle.column.specs.declared.Column.{Column}
+use Rattle.column.specs.declared.Column.the-variants.{TimestampNanosecond, TimestampMicrosecond, TimestampMillisecond, TimestampSecond, Time64Nanosecond, Time64Microsecond, Time32Millisecond, Time32Second, Date32, Date64}
 
 -- a column, a text, and what it reads
 abbrev reads : Column → String → ℤ → Row (Outcome ℤ)

@@ -7,11 +7,8 @@ use Rattle.date_column.specs.Answer.{date32, date64}
 use Rattle.refusal.specs.Outcome.{Outcome}
 use Rattle.stamp_column.specs.Answer.{timestampColumn}
 use Rattle.time_column.specs.Answer.{timeColumn}
-
-pub data Column : Type 0 where
-  TimestampNanosecond TimestampMicrosecond TimestampMillisecond TimestampSecond : Column
-  Time64Nanosecond Time64Microsecond Time32Millisecond Time32Second : Column
-  Date32 Date64 : Column
+use Rattle.column.specs.declared.Column.{Column}
+use Rattle.column.specs.declared.Column.the-variants.{TimestampNanosecond, TimestampMicrosecond, TimestampMillisecond, TimestampSecond, Time64Nanosecond, Time64Microsecond, Time32Millisecond, Time32Second, Date32, Date64}
 
 -- what a column reads
 abbrev pub column : Column → List ℕ → Outcome ℤ

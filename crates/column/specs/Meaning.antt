@@ -15,7 +15,8 @@ use Rattle.text.specs.Trim.{Trimmed}
 use Rattle.time.specs.Grammar.{Reads as TimeReads, Refuses as TimeRefuses}
 use Rattle.datetime.specs.Moment.{Moment, instant}
 use Rattle.stamp_text.specs.Meaning.{Names, Reads as StampReads, Refuses as StampRefuses}
-use Rattle.column.specs.Columns.{Column, TimestampNanosecond, TimestampMicrosecond, TimestampMillisecond, TimestampSecond, Time64Nanosecond, Time64Microsecond, Time32Millisecond, Time32Second, Date32, Date64}
+use Rattle.column.specs.declared.Column.{Column}
+use Rattle.column.specs.declared.Column.the-variants.{TimestampNanosecond, TimestampMicrosecond, TimestampMillisecond, TimestampSecond, Time64Nanosecond, Time64Microsecond, Time32Millisecond, Time32Second, Date32, Date64}
 
 -- "timestamp columns (nano, micro, milli, second)": each with its unit in nanoseconds
 pub data TimestampColumn : Column → ℕ → Type 0 where

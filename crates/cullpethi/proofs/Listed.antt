@@ -11,7 +11,9 @@ use lib.Dec.{leb, eqb, lit≤}
 use lib.ListN.{length, getD, drop}
 use lib.IntN.{ℤ, pos, _*ℤ_}
 use lib.Signed.{quotZ}
-use Rattle.column.specs.Columns.{Column, TimestampNanosecond, TimestampMicrosecond, TimestampMillisecond, TimestampSecond, Time64Nanosecond, Time64Microsecond, Time32Millisecond, Time32Second, Date32, Date64, column}
+use Rattle.column.specs.Columns.{column}
+use Rattle.column.specs.declared.Column.{Column}
+use Rattle.column.specs.declared.Column.the-variants.{TimestampNanosecond, TimestampMicrosecond, TimestampMillisecond, TimestampSecond, Time64Nanosecond, Time64Microsecond, Time32Millisecond, Time32Second, Date32, Date64}
 use Rattle.component.specs.Division.{divide}
 use Rattle.component.specs.Grammar.{Component}
 use Rattle.amount.specs.Grammar.{precision}

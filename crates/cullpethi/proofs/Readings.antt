@@ -18,7 +18,8 @@ use Rattle.time.specs.Answer.{timeOfDay, timeNanos}
 use Rattle.ymd.specs.Forms.{toHyphen, extendedYmd, shortDay}
 use Rattle.date.specs.Answer.{plainDay}
 use Rattle.clock.specs.Grammar.{noDigits}
-use Rattle.column.specs.Columns.{Date32, column}
+use Rattle.column.specs.Columns.{column}
+use Rattle.column.specs.declared.Column.the-variants.{Date32}
 use Rattle.unit.specs.Units.{rank, spellings, same, oneOf, find, low, kelvin, lower, unitOf, present, isUnit, wordLen, orElse}
 use Rattle.amount.specs.Grammar.{precision, wholeFits, scaled}
 use Rattle.amount.specs.Scan.{negative, signLen, pointLen, digitsLen, amountLen, fracOf, unsignedOf, amountOf}

@@ -2,7 +2,8 @@
 use mathlib.Core.List.{List}
 use Prim.Native.Nat.{ℕ}
 use lib.IntN.{ℤ}
-use Rattle.column.specs.Columns.{Column, column}
+use Rattle.column.specs.Columns.{column}
+use Rattle.column.specs.declared.Column.{Column}
 use Rattle.amount.specs.Grammar.{precision}
 use Rattle.rule.specs.Answer.{dayTime, plainMonthDayNano, yearMonth}
 use Rattle.rule.specs.Contribution.{Counts}

@@ -10,14 +10,14 @@ use Rattle.refusal.specs.declared.Read32.the-variants.{Value as Value32,
 use Rattle.refusal.specs.declared.Read64.{Read64}
 use Rattle.refusal.specs.declared.Read64.the-variants.{Value as Value64, Refused as Refused64}
 use Rattle.refusal.specs.declared.Refusal.{Refusal}
-use Rattle.refusal.specs.declared.Refusal.the-variants.{NotUtf8, Date, Separator, Time, Tail, Range, TimeOfDay, Interval, RepeatedUnit, Overflow, Narrowed, SiteStamp}
+use Rattle.refusal.specs.declared.Refusal.the-variants.{NotUtf8, Date, Separator, Time, Tail, Range, TimeOfDay, Interval, RepeatedUnit, Overflow, Narrowed, SiteStamp, Column}
 
 -- a value and nothing else, or a refusal's number and nothing else
 pub data Outcome (A : Type 0) : Type 0 where
   accepted : A → Outcome A
   refused : ℕ → Outcome A
 
--- document 01's number of each refusal
+-- document 01's number of each refusal of a text; behind them document 02's of a whole call (13: No. 1)
 abbrev pub numberOf : Refusal → ℕ
 numberOf NotUtf8 = 1
 numberOf Date = 2
@@ -31,6 +31,7 @@ numberOf RepeatedUnit = 9
 numberOf Overflow = 10
 numberOf Narrowed = 11
 numberOf SiteStamp = 12
+numberOf Column = 13
 
 -- a refusal as an outcome
 abbrev pub because : {A : Type 0} → Refusal → Outcome A

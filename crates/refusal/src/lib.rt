@@ -1,4 +1,4 @@
-// Why a text is refused: the list of document 01, in checking order.
+// Why a text is refused: the list of document 01, in checking order; and behind it why a whole call is (document 02).
 ghost use mathlib.Core.Path.{_≡_};
 ghost use Rattle.refusal.specs.Outcome.{numberOf, numberIn};
 
@@ -27,6 +27,8 @@ pub enum Refusal {
     Narrowed,
     // The plain stamp reader accepts the text, but it is no site stamp.
     SiteStamp,
+    // The ends of a column's texts fall or pass the bytes, or there are fewer cells than ends.
+    Column,
 }
 
 // A reader's answer of 64 bits.
@@ -42,7 +44,7 @@ pub enum Read32 {
 }
 
 impl Refusal {
-    // The number of a refusal in document 01's list.
+    // The number of a refusal in document 01's list and document 02.
     pub fn number(self) -> u8
         ensures { λ r. ⌜ r ≡ numberOf self ⌝ }
     {
@@ -59,6 +61,7 @@ impl Refusal {
             Refusal::Overflow => 10,
             Refusal::Narrowed => 11,
             Refusal::SiteStamp => 12,
+            Refusal::Column => 13,
         }
     }
 

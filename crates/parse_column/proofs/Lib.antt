@@ -1,0 +1,5 @@
+mod Numbering
+mod Order
+mod Passes
+mod Turns
+mod Types
