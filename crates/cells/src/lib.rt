@@ -1,5 +1,6 @@
 // An answer as a status and cells: the one place that writes what a caller lent.
 use interval::DayTimeRead;
+use parse_column::ColumnRead;
 use refusal::Read32;
 use refusal::Read64;
 use total::IntervalRead;
@@ -8,7 +9,7 @@ ghost use Rattle.rule.specs.Meaning.{dayTimeOf};
 ghost use Rattle.rule.specs.Contribution.{counts};
 ghost use Rattle.interval.specs.Read.{dayTimeOutcome};
 ghost use Rattle.total.specs.Read.{intervalOutcome};
-ghost use Rattle.cells.specs.Cells.{Told};
+ghost use Rattle.cells.specs.Cells.{Told, Tells};
 
 pub fn put64(r: Read64, out: &mut i64) -> u8
     ensures { λ status. ⌜ Told (outcome64 r) status (now (out .entry)) (now (out .exit)) ⌝ }
@@ -63,5 +64,19 @@ pub fn put_interval(r: IntervalRead, months: &mut i32, days: &mut i32, nanos: &m
             0
         }
         IntervalRead::Refused(why) => why.number(),
+    }
+}
+
+// A column's answer as a status, and the cell that tells which text was refused.
+pub fn put_index(r: ColumnRead, index: &mut usize) -> u8
+    ensures { λ status. ⌜ Tells r status (now (index .entry)) (now (index .exit)) ⌝ }
+{
+    match r {
+        ColumnRead::Accepted => 0,
+        ColumnRead::Refused(why, i) => {
+            *index = i;
+            why.number()
+        }
+        ColumnRead::NotRead(why) => why.number(),
     }
 }

@@ -27,9 +27,9 @@ use Rattle.rule.specs.Contribution.{Counts, zeros}
 use Rattle.number.specs.Decimal.{integer}
 use Rattle.number.specs.Widths.{inSigned, floor}
 use Rattle.refusal.specs.Attempts.{orElse, divided}
-use Rattle.refusal.specs.Outcome.{Outcome, accepted, refused, because, andThen, inUtf8}
+use Rattle.refusal.specs.Outcome.{Outcome, accepted, refused, because, andThen, inUtf8, numberOf}
 use Rattle.refusal.specs.declared.Refusal.{Refusal}
-use Rattle.refusal.specs.declared.Refusal.the-variants.{NotUtf8, Date, Separator, Time, Tail, Range, TimeOfDay, Interval, RepeatedUnit, Overflow, Narrowed, SiteStamp}
+use Rattle.refusal.specs.declared.Refusal.the-variants.{NotUtf8, Date, Separator, Time, Tail, Range, TimeOfDay, Interval, RepeatedUnit, Overflow, Narrowed, SiteStamp, Column as OfColumn}
 use Rattle.text.specs.Trim.{trimmed}
 use Rattle.utf8.specs.Utf8.{utf8}
 use Rattle.time.specs.Answer.{timeOfDay, timeNanos}
@@ -48,34 +48,34 @@ use Rattle.cullpethi.specs.Calls.{Call, string-to-timestamp-nanos, strin
 -- an outcome whose number, where it is refused, is on the list
 data Numbered {A : Type 0} : Outcome A → Type 0 where
   value : (v : A) → Numbered (accepted v)
-  refusal : (why : Refusal) → Numbered (because why)
+  refusal : (why : Refusal) → numberOf why ≤ 12 → Numbered (because why)
 
 number : {A : Type 0} {o : Outcome A} {n : ℕ} → Numbered o → o ≡ refused n → OnList n
 number (value v) e = clash (sym e)
-number (refusal why) e = rw (← same e) (on-list why)
+number (refusal why h) e = rw (← same e) (on-list why h)
 
 of-test : {A : Type 0} (b : Bool) {o p : Outcome A} → Numbered o → Numbered p → Numbered (cond b o p)
 of-test true f g = f
 of-test false f g = g
 
 well-formed : {A : Type 0} (t : List ℕ) {o : Outcome A} → Numbered o → Numbered (inUtf8 t o)
-well-formed t f = of-test (utf8 t) f (refusal NotUtf8)
+well-formed t f = of-test (utf8 t) f (refusal NotUtf8 (lit≤ tt))
 
 then-numbered : {A B : Type 0} {o : Outcome A} → Numbered o → (f : A → Outcome B) → ((v : A) → Numbered (f v)) → Numbered (andThen o f)
 then-numbered (value v) f q = q v
-then-numbered (refusal why) f q = refusal why
+then-numbered (refusal why h) f q = refusal why h
 
 -- ---- stamps
 
 time-part : (z : ℤ) (o : Option Timed) → Numbered (onTime z o)
-time-part z none = refusal Time
-time-part z (some x) = of-test (isEnding (x .tail)) (value (moment z (x .nanos))) (refusal Tail)
+time-part z none = refusal Time (lit≤ tt)
+time-part z (some x) = of-test (isEnding (x .tail)) (value (moment z (x .nanos))) (refusal Tail (lit≤ tt))
 
 date-part : (t : List ℕ) (o : Option ℤ) → Numbered (onDate t o)
-date-part t none = refusal Date
+date-part t none = refusal Date (lit≤ tt)
 date-part t (some z) =
     of-test (eqb (length t) 10) (value (moment z 0))
-    (of-test (isSeparator (getD t 10 0)) (time-part z (timeOf (drop 11 t))) (refusal Separator))
+    (of-test (isSeparator (getD t 10 0)) (time-part z (timeOf (drop 11 t))) (refusal Separator (lit≤ tt)))
 
 a-moment : (t : List ℕ) → Numbered (plainMoment t)
 unfolding plainMoment
@@ -83,22 +83,22 @@ a-moment t = date-part t (dayOf t)
 
 a-stamp : (t : List ℕ) → Numbered (stampNanos t)
 a-stamp t =
-    then-numbered (well-formed t (a-moment t)) (λ m. inNanos (instant m)) (λ m. of-test (inSigned 63 (instant m)) (value (instant m)) (refusal Range))
+    then-numbered (well-formed t (a-moment t)) (λ m. inNanos (instant m)) (λ m. of-test (inSigned 63 (instant m)) (value (instant m)) (refusal Range (lit≤ tt)))
 
 a-site-stamp : (t : List ℕ) → Numbered (siteNanos t)
-a-site-stamp t = then-numbered (a-stamp t) (λ z. cond (isSite t) (accepted z) (refused 12)) (λ z. of-test (isSite t) (value z) (refusal SiteStamp))
+a-site-stamp t = then-numbered (a-stamp t) (λ z. cond (isSite t) (accepted z) (refused 12)) (λ z. of-test (isSite t) (value z) (refusal SiteStamp (lit≤ tt)))
 
 -- ---- times of day and dates
 
 of-day : (o : Option ℕ) → Numbered (Times.onTime o)
-of-day none = refusal TimeOfDay
+of-day none = refusal TimeOfDay (lit≤ tt)
 of-day (some n) = value (pos n)
 
 a-time : (t : List ℕ) → Numbered (timeNanos t)
 a-time t = well-formed t (of-day (timeOfDay t))
 
 a-day : (o : Option ℤ) → Numbered (onDay o)
-a-day none = refusal Date
+a-day none = refusal Date (lit≤ tt)
 a-day (some z) = value z
 
 named : (t : List ℕ) → Numbered (dayNamed t)
@@ -109,20 +109,20 @@ named t =
     (of-test (leb (length t) 10) (a-day (shortDay t)) (then-numbered (a-moment t) (λ x. accepted (x .day)) (λ x. value (x .day)))))
 
 a-date : (t : List ℕ) → Numbered (dateDays t)
-a-date t = then-numbered (named t) inDays (λ z. of-test (inSigned 31 z) (value z) (refusal Range))
+a-date t = then-numbered (named t) inDays (λ z. of-test (inSigned 31 z) (value z) (refusal Range (lit≤ tt)))
 
 -- ---- columns
 
 or-else : {o p : Outcome ℤ} → Numbered o → Numbered p → Numbered (orElse o p)
 or-else (value z) g = value z
-or-else (refusal why) g = g
+or-else (refusal why h) g = g
 
 in-unit : (k : ℕ) {o : Outcome ℤ} → Numbered o → Numbered (divided k o)
 in-unit k (value z) = value (quotZ z (pos k))
-in-unit k (refusal why) = refusal why
+in-unit k (refusal why h) = refusal why h
 
 an-integer : (o : Option ℤ) → Numbered (onInteger o)
-an-integer none = refusal TimeOfDay
+an-integer none = refusal TimeOfDay (lit≤ tt)
 an-integer (some z) = value z
 
 module _ (t : List ℕ) where
@@ -151,27 +151,27 @@ module _ (t : List ℕ) where
 
 summed : (o : Option Counts) → Numbered (onTotals o)
 unfolding onTotals
-summed none = refusal Overflow
+summed none = refusal Overflow (lit≤ tt)
 summed (some c) = value c
 
 on-division : (n : ℕ) (u : IntervalUnit) (o : Option (List Component)) → Numbered (onDivision n u o)
 unfolding onDivision
-on-division n u none = refusal Interval
-on-division n u (some d) = of-test (twice u d) (refusal RepeatedUnit) (summed (totals n u zeros d))
+on-division n u none = refusal Interval (lit≤ tt)
+on-division n u (some d) = of-test (twice u d) (refusal RepeatedUnit (lit≤ tt)) (summed (totals n u zeros d))
 
 an-interval : (n : ℕ) (u : IntervalUnit) (t : List ℕ) → Numbered (monthDayNano n u t)
 unfolding monthDayNano
-an-interval n u t = of-test (utf8 t) (on-division n u (divide n t)) (refusal NotUtf8)
+an-interval n u t = of-test (utf8 t) (on-division n u (divide n t)) (refusal NotUtf8 (lit≤ tt))
 
 holds : {A : Type 0} (o : Option A) → Numbered (orNarrowed o)
 unfolding orNarrowed
-holds none = refusal Narrowed
+holds none = refusal Narrowed (lit≤ tt)
 holds (some v) = value v
 
 a-narrowed : {A : Type 0} (f : Counts → Option A) {o : Outcome Counts} → Numbered o → Numbered (narrowed f o)
 unfolding narrowed
 a-narrowed f (value c) = holds (f c)
-a-narrowed f (refusal why) = refusal why
+a-narrowed f (refusal why h) = refusal why h
 
 -- ---- the theorem
 
@@ -192,20 +192,24 @@ listed interval-day-time t n e h = number (a-narrowed toDayTime (an-interval pre
 listed interval-month-day-nano t n e h = number (an-interval precision Month t) e
 listed (interval-month-day-nano-config unit) t n e h = known (unitNumbered unit) t n e h
 
+at-least-1 : (why : Refusal) → 1 ≤ numberOf why
+at-least-1 NotUtf8 = lit≤ tt
+at-least-1 Date = lit≤ tt
+at-least-1 Separator = lit≤ tt
+at-least-1 Time = lit≤ tt
+at-least-1 Tail = lit≤ tt
+at-least-1 Range = lit≤ tt
+at-least-1 TimeOfDay = lit≤ tt
+at-least-1 Interval = lit≤ tt
+at-least-1 RepeatedUnit = lit≤ tt
+at-least-1 Overflow = lit≤ tt
+at-least-1 Narrowed = lit≤ tt
+at-least-1 SiteStamp = lit≤ tt
+at-least-1 OfColumn = lit≤ tt
+
 -- the numbers of the list are 1 to 12
 pub range : {n : ℕ} → OnList n → (1 ≤ n) × (n ≤ 12)
-range (on-list NotUtf8) = (lit≤ tt, lit≤ tt)
-range (on-list Date) = (lit≤ tt, lit≤ tt)
-range (on-list Separator) = (lit≤ tt, lit≤ tt)
-range (on-list Time) = (lit≤ tt, lit≤ tt)
-range (on-list Tail) = (lit≤ tt, lit≤ tt)
-range (on-list Range) = (lit≤ tt, lit≤ tt)
-range (on-list TimeOfDay) = (lit≤ tt, lit≤ tt)
-range (on-list Interval) = (lit≤ tt, lit≤ tt)
-range (on-list RepeatedUnit) = (lit≤ tt, lit≤ tt)
-range (on-list Overflow) = (lit≤ tt, lit≤ tt)
-range (on-list Narrowed) = (lit≤ tt, lit≤ tt)
-range (on-list SiteStamp) = (lit≤ tt, lit≤ tt)
+range (on-list why h) = (at-least-1 why, h)
 
 not-zero : (c : Call) (t : List ℕ) (n : ℕ) → answer c t ≡ refused n → n ≡ 0 → ⊥
 not-zero c t n e z = omega (arith, range (listed c t n e (λ h. omega arith)) .0)

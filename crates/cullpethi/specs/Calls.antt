@@ -1,6 +1,6 @@
 -- The delivered calls and the answer that the contract of each cites, so that one statement speaks of all. Assumes nothing.
 use mathlib.Core.List.{List}
-use Prim.Native.Nat.{ℕ}
+use Prim.Native.Nat.{ℕ, _≤_}
 use lib.IntN.{ℤ}
 use Rattle.column.specs.Columns.{column}
 use Rattle.column.specs.declared.Column.{Column}
@@ -49,6 +49,6 @@ answer (interval-month-day-nano-config unit) t = inUnit (unitNumbered unit) t
 pub data Accepts {A : Type 0} : Outcome A → Type 0 where
   accepts : (v : A) → Accepts (accepted v)
 
--- a number of document 01's list, "Refusals, in checking order"
+-- a number of document 01's list, "Refusals, in checking order", of which the last is 12
 pub data OnList : ℕ → Type 0 where
-  on-list : (why : Refusal) → OnList (numberOf why)
+  on-list : (why : Refusal) → numberOf why ≤ 12 → OnList (numberOf why)

@@ -3,12 +3,16 @@ use cells::put_day_time;
 use cells::put_interval;
 use cells::put32;
 use cells::put64;
+use cells::put_index;
 use date_column::Date32Type;
 use date_column::Date64Type;
 use interval::parse_interval_day_time;
 use interval::parse_interval_month_day_nano;
 use interval::parse_interval_month_day_nano_config;
 use interval::parse_interval_year_month;
+use parse_column::numbers::ColumnNamed;
+use parse_column::numbers::column_numbered;
+use parse_column::parse_column;
 use site::site_stamp;
 use stamp_column::TimestampMicrosecondType;
 use stamp_column::TimestampMillisecondType;
@@ -33,8 +37,13 @@ ghost use Rattle.time.specs.Answer.{timeNanos};
 ghost use Rattle.stamp_text.specs.Answer.{stampNanos};
 ghost use Rattle.site.specs.Site.{siteNanos};
 ghost use Rattle.unit.specs.Units.{unitNumbered};
-ghost use Rattle.cells.specs.Cells.{Told};
+ghost use Rattle.cells.specs.Cells.{Told, ToldAt};
+ghost use Rattle.parse_column.specs.Numbers.{columnNumbered};
+ghost use Rattle.whole_column.specs.Answer.{cellsAfter};
+ghost use Rattle.cullpethi.specs.ColumnNumber.{inColumn};
 ghost use Rattle.cullpethi.specs.DefaultUnit.{inUnit};
+ghost use lib.ListN.{length};
+ghost use mathlib.Core.Path.{_≡_};
 
 // A stamp, in nanoseconds since 1970-01-01.
 #[no_mangle]
@@ -192,5 +201,23 @@ pub extern "C" fn cullpethi_parse_interval_month_day_nano_config(
             nanos,
         ),
         UnitRead::None => 255,
+    }
+}
+
+// A whole column by its number, 0 TimestampNanosecond to 9 Date64: each text by the column's reader, its value into its cell, or the first
+// refused one's number and index; 13 where ends fall or pass the bytes or cells are too few, 255 where there is no such column.
+#[no_mangle]
+pub extern "C" fn cullpethi_parse_column(
+    column: u8,
+    texts: &[u8],
+    ends: &[u32],
+    cells: &mut [i64],
+    index: &mut usize,
+) -> u8
+    ensures { λ r. ⌜ ToldAt (inColumn (columnNumbered «column») (now (texts .entry)) (now (ends .entry)) (length (now (cells .entry)))) r (now (index .entry)) (now (index .exit)) × (now (cells .exit) ≡ cellsAfter (inColumn (columnNumbered «column») (now (texts .entry)) (now (ends .entry)) (length (now (cells .entry)))) (now (cells .entry))) ⌝ }
+{
+    match column_numbered(column) {
+        ColumnNamed::Column(column) => put_index(parse_column(column, texts, ends, cells), index),
+        ColumnNamed::None => 255,
     }
 }
