@@ -13,6 +13,7 @@ pub enum Answer {
 }
 
 pub mod bench;
+pub mod column;
 pub mod generate;
 pub mod library;
 pub mod lines;

@@ -1,4 +1,5 @@
 //! Times of the library beside the Rust's: which readers, what they may take, and the table.
+pub mod columns;
 pub mod sides;
 pub mod svg;
 pub mod texts;

@@ -64,9 +64,17 @@ pub fn texts(reader: Reader, set: Set) -> Option<Vec<String>> {
     if set == Set::Later && !attempts(reader) {
         return None;
     }
-    let kind = kind(reader);
+    Some(seeded(kind(reader), set, TEXTS))
+}
+
+/// So many realistic texts of a reader.
+pub fn realistic(reader: Reader, count: usize) -> Vec<String> {
+    seeded(kind(reader), Set::Realistic, count)
+}
+
+fn seeded(kind: Kind, set: Set, count: usize) -> Vec<String> {
     let mut g = Generator::new(SEED ^ (kind as u64) << 56 ^ (set as u64) << 48);
-    Some((0..TEXTS).map(|_| text(&mut g, kind, set)).collect())
+    (0..count).map(|_| text(&mut g, kind, set)).collect()
 }
 
 fn text(g: &mut Generator, kind: Kind, set: Set) -> String {
