@@ -30,7 +30,9 @@ enum cullpethi_status {
     CULLPETHI_OVERFLOW = 10,     /* a contribution or a running total does not fit */
     CULLPETHI_NARROWED = 11,     /* the narrowed interval form cannot hold the result */
     CULLPETHI_SITE_STAMP = 12,   /* the plain stamp reader accepts the text, but it is no site stamp */
-    CULLPETHI_NO_UNIT = 255      /* the number of a default unit is none of cullpethi_unit */
+    CULLPETHI_COLUMN = 13,       /* the ends of a column's texts fall or pass the bytes, or there are fewer cells than ends */
+    CULLPETHI_NO_UNIT = 255,     /* the number of a default unit is none of cullpethi_unit */
+    CULLPETHI_NO_COLUMN = 255    /* the number of a column is none of cullpethi_column */
 };
 
 /* The default unit of an interval: that of a last amount without one. */
@@ -47,6 +49,20 @@ enum cullpethi_unit {
     CULLPETHI_MILLISECOND = 9,
     CULLPETHI_MICROSECOND = 10,
     CULLPETHI_NANOSECOND = 11
+};
+
+/* The columns that cullpethi_parse_column reads, each as the function of its name reads one text. */
+enum cullpethi_column {
+    CULLPETHI_TIMESTAMP_NANOSECOND = 0,
+    CULLPETHI_TIMESTAMP_MICROSECOND = 1,
+    CULLPETHI_TIMESTAMP_MILLISECOND = 2,
+    CULLPETHI_TIMESTAMP_SECOND = 3,
+    CULLPETHI_TIME64_NANOSECOND = 4,
+    CULLPETHI_TIME64_MICROSECOND = 5,
+    CULLPETHI_TIME32_MILLISECOND = 6,
+    CULLPETHI_TIME32_SECOND = 7,
+    CULLPETHI_DATE32 = 8,
+    CULLPETHI_DATE64 = 9
 };
 
 /* A stamp in UTC, in nanoseconds since 1970-01-01: 2020-09-08T13:42:29.190855Z, 2020-09-08 13:42:29, 2020-09-08. */
@@ -100,6 +116,17 @@ uint8_t cullpethi_parse_interval_month_day_nano(const uint8_t *text, size_t len,
 /* The same with a default unit of cullpethi_unit. */
 uint8_t cullpethi_parse_interval_month_day_nano_config(const uint8_t *text, size_t len, uint8_t default_unit, int32_t *months,
                                                        int32_t *days, int64_t *nanos);
+
+/* A whole column of cullpethi_column. The texts lie end to end in `texts_len` bytes at `texts`: text i is the bytes from the end before it,
+ * ends[i - 1], 0 for the first, up to ends[i]. There are `ends_len` of them, and `cells_len` cells; a value of 32 bits keeps its number.
+ *
+ * CULLPETHI_OK: every text is accepted, cells[i] holds the value of text i, and later cells are as they were; `index` too.
+ * CULLPETHI_NO_COLUMN, then CULLPETHI_COLUMN: no text is read, and cells and `index` are as they were.
+ * Any other number: that of the first refused text, whose i `index` holds. No cell is written, not even during the call: a cell may be a
+ * register. Bytes past the last end are not read. Where a length is 0, its pointer may be any but NULL.
+ */
+uint8_t cullpethi_parse_column(uint8_t column, const uint8_t *texts, size_t texts_len, const uint32_t *ends, size_t ends_len,
+                               int64_t *cells, size_t cells_len, size_t *index);
 
 #ifdef __cplusplus
 }

@@ -6,6 +6,7 @@
 //! | a time of day, as `6:30 pm` | [`string_to_time_nanoseconds`], the four `parse_time*` |
 //! | a date, as `2026-03-01` | [`parse_date32`], [`parse_date64`] |
 //! | an interval, as `1 month -2.5 days` | [`parse_interval_month_day_nano`], [`parse_interval_day_time`], [`parse_interval_year_month`] |
+//! | a whole column of stamps, times or dates | [`parse_column`], [`parse_texts`] |
 //!
 //! Each reader takes a [`Text`], bytes or characters, and gives its value or one [`Refusal`]. The columns of arrow are types with a
 //! `parse` besides, as in arrow-cast: see [`Parser`].
@@ -24,12 +25,14 @@ mod library;
 mod refusal;
 mod text;
 mod units;
+mod whole;
 
 pub use columns::*;
 pub use intervals::*;
 pub use refusal::Refusal;
 pub use text::Text;
 pub use units::IntervalUnit;
+pub use whole::{parse_column, parse_texts, Column, ColumnRefusal};
 
 use library::one;
 

@@ -51,6 +51,16 @@ extern "C" {
         days: *mut i32,
         nanos: *mut i64,
     ) -> u8;
+    pub fn cullpethi_parse_column(
+        column: u8,
+        texts: *const u8,
+        texts_len: usize,
+        ends: *const u32,
+        ends_len: usize,
+        cells: *mut i64,
+        cells_len: usize,
+        index: *mut usize,
+    ) -> u8;
 }
 
 /// The value that a function writes into its one cell.

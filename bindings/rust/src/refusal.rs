@@ -19,6 +19,7 @@ use std::fmt;
 /// assert_eq!(parse_interval_month_day_nano("2147483648 months"), Err(Refusal::Overflow));
 /// assert_eq!(parse_interval_year_month("1 day"), Err(Refusal::Narrowed));
 /// assert_eq!(site_stamp("1970-01-01 00:00:00Z"), Err(Refusal::SiteStamp));
+/// assert_eq!(parse_column(Column::Date32, "", &[1], &mut [0]).unwrap_err().refusal, Refusal::Column);
 /// ```
 #[derive(Clone, Copy, Debug, PartialEq, Eq, Hash, PartialOrd, Ord)]
 #[repr(u8)]
@@ -47,11 +48,13 @@ pub enum Refusal {
     Narrowed = 11,
     /// The plain stamp reader accepts the text, but it is no site stamp: `1970-01-01 00:00:00Z`.
     SiteStamp = 12,
+    /// The ends of a column's texts fall or pass the bytes, or there are fewer cells than ends: `""` with an end of 1.
+    Column = 13,
 }
 
 impl Refusal {
     /// Every refusal, by its number less 1.
-    pub const ALL: [Refusal; 12] = [
+    pub const ALL: [Refusal; 13] = [
         Refusal::NotUtf8,
         Refusal::Date,
         Refusal::Separator,
@@ -64,9 +67,10 @@ impl Refusal {
         Refusal::Overflow,
         Refusal::Narrowed,
         Refusal::SiteStamp,
+        Refusal::Column,
     ];
 
-    /// The refusal's number, from 1 to 12: what the C interface returns.
+    /// The refusal's number, from 1 to 13: what the C interface returns.
     ///
     /// ```
     /// assert_eq!(cullpethi::Refusal::Tail.number(), 5);
@@ -75,7 +79,7 @@ impl Refusal {
         self as u8
     }
 
-    /// What a status says; 255 comes only of a unit's number that [`IntervalUnit`](crate::IntervalUnit) does not have.
+    /// What a status says; 255 comes only of a number that [`IntervalUnit`](crate::IntervalUnit) or [`Column`](crate::Column) does not have.
     pub(crate) fn unless_ok(status: u8) -> Result<(), Refusal> {
         match status {
             0 => Ok(()),
@@ -99,6 +103,7 @@ impl fmt::Display for Refusal {
             Refusal::Overflow => "a contribution or a running total does not fit",
             Refusal::Narrowed => "the narrowed interval form cannot hold the result",
             Refusal::SiteStamp => "the plain stamp reader accepts the text, but it is no site stamp",
+            Refusal::Column => "the ends of a column's texts fall or pass the bytes, or there are fewer cells than ends",
         })
     }
 }
