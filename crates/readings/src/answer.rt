@@ -2,6 +2,7 @@
 use crate::columns;
 use crate::intervals;
 use crate::show;
+use crate::whole;
 use lines::input::find;
 
 pub fn of(name: &[u8], text: &[u8]) {
@@ -9,6 +10,10 @@ pub fn of(name: &[u8], text: &[u8]) {
         return;
     }
     if intervals::of(name, text) {
+        return;
+    }
+    if check::same(name, b"column") {
+        whole::of(text);
         return;
     }
     ground(name, text);

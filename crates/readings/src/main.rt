@@ -6,6 +6,7 @@ mod input;
 mod intervals;
 mod line;
 mod show;
+mod whole;
 
 fn main() {
     input::all();
