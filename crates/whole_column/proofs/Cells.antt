@@ -46,6 +46,6 @@ module _ (read : List ℕ → Outcome ℤ) (bytes ends : List ℕ) where
     unfolding stored
     held e =
         let q = as-many e in
-        (rw (← q .0) (take-append-seam zs (drop (length zs) cells)),
-         rw (← q .0) (drop-append-seam zs (drop (length zs) cells)),
+        (rw (← q .0) (take-append-seam zs _),
+         rw (← q .0) (drop-append-seam zs _),
          rw (length-append zs (drop (length zs) cells), length-drop (length zs) cells) (omega (arith, q .0, q .1)))

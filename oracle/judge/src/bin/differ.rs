@@ -1,4 +1,6 @@
-//! differ SEED COUNT: the Rust and the library on the same texts, COUNT for each family and besides all short texts over a small alphabet.
+//! differ SEED COUNT: the Rust and the library on the same texts, COUNT for each family and besides all short texts over a small alphabet;
+//! then on whole columns, COUNT / 20 of each of the ten.
+use judge::column::{accepted, by_library, by_rust, Texts, Whole, COLUMNS};
 use judge::generate::{Family, Generator};
 use judge::library::library;
 use judge::*;
@@ -131,6 +133,87 @@ fn named(reader: Reader) -> String {
     }
 }
 
+/// The family whose texts a column is given.
+fn family(column: u8) -> Family {
+    match column {
+        0..=3 => Family::Stamp,
+        4..=7 => Family::Time,
+        _ => Family::Date,
+    }
+}
+
+/// Up to eight texts; in three columns of four only texts that the Rust accepts, but perhaps one.
+fn texts(column: u8, g: &mut Generator) -> Texts {
+    let mut all = Texts::default();
+    let any = g.below(4) == 0;
+    let count = g.below(9);
+    let odd = g.below(2 * count + 1);
+    for i in 0..count {
+        let mut text = g.text(family(column));
+        while !any && i != odd && !accepted(column, &text) {
+            text = g.text(family(column));
+        }
+        all.push(&text);
+    }
+    all
+}
+
+/// Bytes behind the last end, an end that is moved, a column's number that is none, cells fewer or more than ends.
+fn damaged(column: u8, g: &mut Generator) -> (u8, Texts, usize) {
+    let mut all = texts(column, g);
+    if g.below(3) == 0 {
+        let more = g.text(family(column));
+        all.bytes.extend_from_slice(&more);
+    }
+    if !all.ends.is_empty() && g.below(8) == 0 {
+        let i = g.below(all.ends.len() as u64) as usize;
+        all.ends[i] = match g.below(4) {
+            0 => all.ends[i].wrapping_sub(1 + g.below(12) as u32),
+            1 => all.ends[i] + 1 + g.below(12) as u32,
+            2 => all.bytes.len() as u32 + g.below(2) as u32,
+            _ => u32::MAX - g.below(2) as u32,
+        };
+    }
+    let cells = all.ends.len() + [0, 0, 1, 3][g.below(4) as usize] - (!all.ends.is_empty() && g.below(16) == 0) as usize;
+    let column = if g.below(64) == 0 { 10 + g.below(246) as u8 } else { column };
+    (column, all, cells)
+}
+
+/// Whether the answers agree, as for one text.
+fn agree_whole(rust: &Whole, ours: &Option<Whole>) -> bool {
+    match (rust, ours) {
+        (Whole::FirstRefused(None, i), Some(Whole::FirstRefused(Some(2 | 6), j))) => i == j,
+        _ => ours.as_ref() == Some(rust),
+    }
+}
+
+/// Columns compared: all, accepted, refused at a text, not read, different.
+fn columns(seed: u64, count: u64) -> [u64; 5] {
+    let mut n = [0; 5];
+    for column in 0..COLUMNS.len() as u8 {
+        let mut g = Generator::new(seed ^ (column as u64 + 16) << 56);
+        for _ in 0..count {
+            let (column, all, cells) = damaged(column, &mut g);
+            let theirs = by_rust(column, &all.bytes, &all.ends, cells);
+            let ours = by_library(column, &all.bytes, &all.ends, cells);
+            n[0] += 1;
+            n[match theirs {
+                Whole::Accepted(_) => 1,
+                Whole::FirstRefused(..) => 2,
+                Whole::NotRead(_) => 3,
+            }] += 1;
+            if !agree_whole(&theirs, &ours) {
+                n[4] += 1;
+                if n[4] <= 20 {
+                    let bytes = String::from_utf8_lossy(&all.bytes);
+                    println!("differ: column {column} {bytes:?} {:?} {cells} cells: Rust {theirs:?} library {ours:?}", all.ends);
+                }
+            }
+        }
+    }
+    n
+}
+
 fn main() {
     let mut args = std::env::args().skip(1).map(|a| a.parse::<u64>().expect("differ SEED COUNT"));
     let (seed, count) = (args.next().unwrap_or(1), args.next().unwrap_or(1_000_000));
@@ -153,6 +236,10 @@ fn main() {
         passed += n.compared - n.differ;
         failed += n.differ;
     }
+    let [all, accepted, refused, not_read, differ] = columns(seed, count / 20);
+    println!("Whole columns: compared {all}, accepted {accepted}, a text refused {refused}, not read {not_read}, different {differ}");
+    passed += all - differ;
+    failed += differ;
     println!("{passed} passed, {failed} failed");
     std::process::exit((failed != 0) as i32);
 }
