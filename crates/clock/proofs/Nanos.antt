@@ -1,33 +1,21 @@
--- Fraction digits as nanoseconds, as the code counts them: a digit more, the end of the digits; and that this is the definition.
--- Assumes nothing.
+-- Fraction digits as nanoseconds, as the code counts them: a digit more, the end of the digits, and digits up to a place. Assumes nothing.
 use mathlib.Core.Path.{_≡_, refl, sym, ap, _∙_}
 use mathlib.Core.List.{List, [], _∷_}
-use Prim.Native.Nat.{ℕ, zero, suc, _+_, _*_, _-_, _/_, _^_, _≤_, _<_}
+use Prim.Native.Nat.{ℕ, zero, suc, _+_, _*_, _-_, _^_, _≤_, _<_, min}
 use native.Mathlib.Omega.{arith}
 use native.Mathlib.Numerals.{add-one}
-use native.Mathlib.Nat.{le-refl, mul-le-mul-right, le-of-suc-le-suc, pow-suc}
-use lib.ListN.{getD, length, take, drop, length-take}
+use native.Mathlib.Nat.{le-refl, le-trans, le-of-lt, le-mul-of-pos-right, min-eq-left, min-eq-right}
+use lib.Dec.{leb, ltb}
+use lib.ListN.{getD, length, take, drop, length-take, List·getD-eq-default}
 use lib.Pow.{pow-add}
-use lib.Seq.{drop-cons, take-nil, take-take}
-use Rattle.text.specs.Digits.{worth, digitOf, value, run}
-use Rattle.text.proofs.DigitLaws.{is-digit, is-worth, run-off, run-end}
-use Rattle.text.proofs.DigitLists.{value-behind, run-take}
+use lib.Seq.{drop-cons, take-nil, take-take, take-all, take-length}
+use borrow.Author.Tests.{leb-true, leb-false, ltb-true, ltb-false}
+use Rattle.text.specs.Digits.{isDigit, worth, digitOf, value, run}
+use Rattle.text.proofs.Bools.{by-test}
+use Rattle.text.proofs.DigitLaws.{is-digit, is-worth, run-off, run-end, grows}
+use Rattle.text.proofs.DigitLists.{run-take}
+use Rattle.text.proofs.Values.{ten-pos}
 use Rattle.clock.specs.Clock.{nanosOf}
-
--- digits as nanoseconds, as the code counts them: the first counts u, each later one a tenth of the one before, in whole nanoseconds
-unfoldable pub nanosFrom : ℕ → List ℕ → ℕ
-nanosFrom u [] = 0
-nanosFrom u (b ∷ f) = worth b * u + nanosFrom (u / 10) f
-
--- what a digit counts where k places are left, itself included
-unfoldable unit : ℕ → ℕ
-unit zero = 0
-unit (suc k) = 10 ^ k
-
-unit-down : (k : ℕ) → 10 ^ k / 10 ≡ unit k
-unfolding unit
-unit-down zero = refl
-unit-down (suc k) = rw (pow-suc 10 k) (omega arith)
 
 -- at most k digits, and the places that they leave of k
 pub places : (k : ℕ) (f : List ℕ) → 10 ^ length (take k f) * 10 ^ (k - length (take k f)) ≡ 10 ^ k
@@ -36,66 +24,81 @@ places k f =
     let e : length (take k f) + (k - length (take k f)) ≡ k = omega arith in
     sym (pow-add 10 (length (take k f)) (k - length (take k f))) ∙ ap (λ (n : ℕ). 10 ^ n) e
 
--- no digit counts where no place is left
-nothing : (f : List ℕ) → nanosFrom 0 f ≡ 0
-unfolding nanosFrom
-nothing [] = refl
-nothing (b ∷ f) = omega (arith, nothing f)
+-- ---- digits f behind the number a, where k places are left
 
-by-places : (k : ℕ) (f : List ℕ) → nanosFrom (unit k) f ≡ value 0 (take k f) * 10 ^ (k - length (take k f))
-unfolding nanosFrom unit value
-by-places zero f = nothing f
-by-places (suc k) [] = omega arith
-by-places (suc k) (b ∷ f) =
-    let e : suc k - suc (length (take k f)) ≡ k - length (take k f) = omega arith in
-    rw (unit-down k, by-places k f, e, value-behind (take k f) (0 * 10 + worth b))
-    (omega (arith, ap (λ (x : ℕ). worth b * x) (places k f)))
+abbrev pub behind : ℕ → ℕ → List ℕ → ℕ
+behind k a f = value a (take k f) * 10 ^ (k - length (take k f))
 
-nanos-of : (f : List ℕ) → nanosFrom 100000000 f ≡ nanosOf f
-unfolding nanosOf unit
-nanos-of f = by-places 9 f
+none-behind : (k a : ℕ) → behind k a [] ≡ a * 10 ^ k
+unfolding value
+none-behind k a = let z : k - 0 ≡ k = omega arith in rw (take-nil k, z)
 
--- ---- at a place of a text
+one-more : (k a b : ℕ) (f : List ℕ) → behind (suc k) a (b ∷ f) ≡ behind k (a * 10 + worth b) f
+unfolding value
+one-more k a b f = let e : suc k - suc (length (take k f)) ≡ k - length (take k f) = omega arith in rw e
 
--- the digits that a text begins with, at most n of them, where the first counts u
-abbrev pub led : ℕ → ℕ → List ℕ → ℕ
-led u n t = nanosFrom u (take n (take (run t) t))
+-- where no place is left
+pub all-counted : (a : ℕ) (f : List ℕ) → behind 0 a f ≡ a
+unfolding value
+all-counted a f = omega arith
 
--- and all of them by the definition
+pub grows-behind : (k a : ℕ) (f : List ℕ) → a ≤ behind k a f
+grows-behind k a f =
+    le-trans {m = value a (take k f)} (grows (take k f) a) (le-mul-of-pos-right (value a (take k f)) (ten-pos (k - length (take k f))))
+
+-- ---- the digits that a text begins with
+
+abbrev pub led : List ℕ → List ℕ
+led t = take (run t) t
+
+-- at most n of them, by the definition
 abbrev pub counted : ℕ → List ℕ → ℕ
-counted n t = nanosOf (take n (take (run t) t))
+counted n t = nanosOf (take n (led t))
 
-pub at-start : (n : ℕ) (t : List ℕ) → 0 + led 100000000 (n - 0) (drop 0 t) ≡ counted n t
-at-start n t = let z : n - 0 ≡ n = omega arith in rw z (omega (arith, nanos-of (take n (take (run t) t))))
+-- d is the byte at i less 48; past the end that is 208
+module _ (s : List ℕ) (i d : ℕ) (fits : getD s i 0 < 256) (e : d ≡ digitOf (getD s i 0)) where
+  inside : d < 10 → i < length s
+  inside g =
+      by-test (ltb i (length s))
+      (λ t. ltb-true i (length s) t)
+      (λ t. absurd (omega (arith, List·getD-eq-default s 0 {n = i} (ltb-false i (length s) t))))
 
-none-left : (u n : ℕ) (t : List ℕ) → run t ≡ 0 → led u n t ≡ 0
-unfolding nanosFrom
-none-left u n t e = rw (e, take-nil n)
+  led-off : 10 ≤ d → led (drop i s) ≡ []
+  led-off g =
+      by-test (ltb i (length s))
+      (λ t. rw (run-off s i d (ltb-true i (length s) t) fits e g))
+      (λ t. rw (run-end s i (ltb-false i (length s) t)))
 
-pub none-more : (u : ℕ) (t : List ℕ) (n i : ℕ) → n ≤ i → led u (n - i) t ≡ 0
-unfolding nanosFrom
-none-more u t n i h = let z : n - i ≡ 0 = omega arith in rw z
+  led-on : d < 10 → led (drop i s) ≡ getD s i 0 ∷ led (drop (i + 1) s)
+  unfolding run
+  led-on g = rw (drop-cons s i 0 (inside g), is-digit (getD s i 0) d fits e g, add-one)
 
--- behind nine digits
-pub no-more-count : (n : ℕ) (t : List ℕ) → led 0 n t ≡ 0
-no-more-count n t = nothing (take n (take (run t) t))
+  pub no-digit-here : (k a : ℕ) → 10 ≤ d → behind k a (led (drop i s)) ≡ a * 10 ^ k
+  no-digit-here k a g = rw (led-off g) (none-behind k a)
 
-pub at-end : (u n : ℕ) (s : List ℕ) (i : ℕ) → length s ≤ i → led u n (drop i s) ≡ 0
-at-end u n s i h = none-left u n (drop i s) (run-end s i h)
+  pub digit-here : (k a : ℕ) → i < k → d < 10 → behind (k - i) a (led (drop i s)) ≡ behind (k - (i + 1)) (a * 10 + d) (led (drop (i + 1) s))
+  digit-here k a l g =
+      let z : k - i ≡ suc (k - (i + 1)) = omega arith in
+      rw (z, led-on g, one-more (k - (i + 1)) a (getD s i 0) (led (drop (i + 1) s)), is-worth (getD s i 0) d fits e g)
 
-module _ (u : ℕ) (s : List ℕ) (i d : ℕ) (h : i < length s) (fits : getD s i 0 < 256) (e : d ≡ digitOf (getD s i 0)) where
-  pub no-digit-here : (n : ℕ) → 10 ≤ d → led u n (drop i s) ≡ 0
-  no-digit-here n g = none-left u n (drop i s) (run-off s i d h fits e g)
+-- ---- at most n of the bytes
 
-  pub digit-more : (n : ℕ) → i < n → d < 10 → led u (n - i) (drop i s) ≡ d * u + led (u / 10) (n - (i + 1)) (drop (i + 1) s)
-  unfolding nanosFrom run
-  digit-more n l g =
-      let z : n - i ≡ suc (n - (i + 1)) = omega arith in
-      rw (drop-cons s i 0 h, is-digit (getD s i 0) d fits e g, z, add-one, is-worth (getD s i 0) d fits e g)
+-- their digits
+led-take : (n : ℕ) (t : List ℕ) → led (take n t) ≡ take n (led t)
+unfolding run
+led-take zero t = refl
+led-take (suc n) [] = refl
+led-take (suc n) (b ∷ t) = by-test (isDigit b) (λ e. rw (e, led-take n t)) (λ e. rw e)
 
--- what a digit adds
-pub short-of : (u d : ℕ) → d < 10 → d * u ≤ 9 * u
-short-of u d h = mul-le-mul-right u (le-of-suc-le-suc h)
+-- where there are fewer
+at-most : (n : ℕ) (t : List ℕ) → take (min n (length t)) t ≡ take n t
+at-most n t =
+    by-test (leb n (length t))
+    (λ e. rw (min-eq-left (leb-true n (length t) e)))
+    (λ e. let h : length t ≤ n = le-of-lt (leb-false n (length t) e) in rw (min-eq-right h, take-length, take-all n t h))
+
+pub cut : (n : ℕ) {end : ℕ} (t : List ℕ) → end ≡ min n (length t) → nanosOf (led (take end t)) ≡ counted n t
+cut n t e = rw (e, at-most n t, led-take n t)
 
 -- a run of digits is its own run
 pub of-run : (t : List ℕ) → counted (run t) (take (run t) t) ≡ nanosOf (take (run t) t)

@@ -2,7 +2,7 @@
 ghost use mathlib.Core.Path.{_≡_};
 ghost use mathlib.Core.Bool.{cond, _&&_};
 ghost use mathlib.Core.Option.{none, some};
-ghost use Prim.Native.Nat.{_+_, _*_, _<_};
+ghost use Prim.Native.Nat.{_+_, _-_, _*_, _^_, _<_, min};
 ghost use lib.Dec.{ltb};
 ghost use lib.ListN.{take};
 ghost use Rattle.text.specs.Digits.{run};
@@ -24,26 +24,50 @@ pub enum Time {
 pub fn parse_nanos(digits: &[u8], n: usize) -> u32
     ensures { λ r. ⌜ (r ≡ nanosOf (take n (take (run (now (digits .entry))) (now (digits .entry))))) × (r < 1000000000) ⌝ }
 {
+    let end = least(n, digits.len());
+    nanos_of(&digits[..end])
+}
+
+// Their number, and one product where they end: a unit for each digit would be a division by ten in each turn.
+// Nine turns at most, so that they are compiled one by one.
+fn nanos_of(s: &[u8]) -> u32
+    ensures { λ r. ⌜ (r ≡ nanosOf (take (run (now (s .entry))) (now (s .entry)))) × (r < 1000000000) ⌝ }
+{
     let mut nanos: u32 = 0;
-    let mut unit: u32 = 100_000_000;
     let mut i = 0;
-    while i < n {
-        // Behind nine digits.
-        if unit == 0 {
-            return nanos;
-        }
-        if digits.len() <= i {
-            return nanos;
-        }
-        let d = text::digits::digit(digits[i]);
+    while i < 9 {
+        let d = text::digits::digit(text::byte_at(s, i));
         if 10 <= d {
-            return nanos;
+            return nanos * scale(i);
         }
-        nanos += d as u32 * unit;
-        unit /= 10;
+        nanos = nanos * 10 + d as u32;
         i += 1;
     }
     nanos
+}
+
+// Ten to the places that i digits leave of nine.
+fn scale(i: usize) -> u32
+    requires { ⌜ i < 9 ⌝ }
+    ensures { λ r. ⌜ r ≡ 10 ^ (9 - i) ⌝ }
+{
+    match i {
+        0 => 1_000_000_000,
+        1 => 100_000_000,
+        2 => 10_000_000,
+        3 => 1_000_000,
+        4 => 100_000,
+        5 => 10_000,
+        6 => 1_000,
+        7 => 100,
+        _ => 10,
+    }
+}
+
+fn least(a: usize, b: usize) -> usize
+    ensures { λ r. ⌜ r ≡ min a b ⌝ }
+{
+    if a < b { a } else { b }
 }
 
 // chrono's `NaiveTime::from_hms_nano_opt`, with second 60 held as second 59 and 1,000,000,000 more nanoseconds.
