@@ -147,6 +147,9 @@ module _ (t : List ℕ) where
       of-test (leb (length t) 10) (then-numbered (named t) (λ z. accepted (z *ℤ pos 86400000)) (λ z. value (z *ℤ pos 86400000)))
       (then-numbered (well-formed t (a-moment t)) (λ m. millis (instant m)) (λ m. value (floor (instant m) 1000000)))
 
+pub numbered-column : (t : List ℕ) (c : Column) (n : ℕ) → column c t ≡ refused n → OnList n
+numbered-column t c n e = number (a-column t c) e
+
 -- ---- intervals
 
 summed : (o : Option Counts) → Numbered (onTotals o)

@@ -1,9 +1,9 @@
 // The C interface: each function returns 0 and writes its cells, or returns a refusal's number and writes nothing.
 use cells::put_day_time;
+use cells::put_index;
 use cells::put_interval;
 use cells::put32;
 use cells::put64;
-use cells::put_index;
 use date_column::Date32Type;
 use date_column::Date64Type;
 use interval::parse_interval_day_time;

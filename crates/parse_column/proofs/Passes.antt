@@ -70,7 +70,8 @@ module _ (read : List ℕ → Outcome ℤ) where
         values = z ∷ a .values;
         each = ap suc (a .each);
         answer = rw (e, a .answer) refl;
-        cells-hold = λ cells h. rw e (a .cells-hold (set cells i z) (rw (length-set cells i z) (omega (arith, h))) ∙ put-first i z (a .values) cells h) }
+        cells-hold = λ cells h. rw e (a .cells-hold (set cells i z) (rw (length-set cells i z) (omega (arith, h))) ∙ put-first i z (a .values) cells h);
+      }
 
   on-text : (i : ℕ) (t : List ℕ) (texts : List (List ℕ)) (o : Outcome ℤ) → read t ≡ o → (none ≡ refusedFrom read (suc i) texts → AllRead (suc i) texts)
       → none ≡ orLater o i (refusedFrom read (suc i) texts) → AllRead i (t ∷ texts)
@@ -85,7 +86,8 @@ module _ (read : List ℕ → Outcome ℤ) where
         values = [];
         each = refl;
         answer = refl;
-        cells-hold = λ cells h. sym (rw (add-zero i) (take-append-drop i cells)) }
+        cells-hold = λ cells h. sym (rw (add-zero i) (take-append-drop i cells));
+      }
   all-read i (t ∷ texts) e = on-text i t texts (read t) refl (all-read (suc i) texts) e
 
   at-text : (i : ℕ) (t : List ℕ) (texts : List (List ℕ)) (n j : ℕ) (o : Outcome ℤ) → read t ≡ o

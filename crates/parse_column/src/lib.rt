@@ -1,7 +1,7 @@
 // A column's texts read at once: document 02's whole columns. The texts are read twice, once to see that all are accepted and once to
 // store their values, so that no cell is touched while one may still be refused.
-use column::Column;
 use crate::texts::FirstRefused;
+use column::Column;
 use date_column::Date32Type;
 use date_column::Date64Type;
 use refusal::Read32;

@@ -1,6 +1,6 @@
 // One reading of a column's texts.
-use column::Column;
 use crate::parse;
+use column::Column;
 use refusal::Read64;
 use refusal::Refusal;
 ghost use mathlib.Core.Path.{_≡_};

@@ -66,7 +66,7 @@ lies bytes from (end ∷ ends) h e =
     let t : List ℕ = take (end - from) (drop from bytes) in
     let l : length t ≡ end - from = length-take-le (end - from) (drop from bytes) (rw (length-drop from bytes) (omega (arith, q .0 .0, q .0 .1))) in
     let whole-rest : t ++ drop end bytes ≡ drop from bytes =
-      ap (λ (r : List ℕ). t ++ r) (sym (behind-end bytes from end (q .0 .0))) ∙ take-append-drop (end - from) (drop from bytes) in
+    ap (λ (r : List ℕ). t ++ r) (sym (behind-end bytes from end (q .0 .0))) ∙ take-append-drop (end - from) (drop from bytes) in
     let at-end : end ≡ from + length t = omega (arith, q .0 .0, l) in
     in-bytes whole-rest (one-more at-end (lies bytes end ends (q .0 .1) (q .1)))
 
@@ -80,16 +80,17 @@ cut-out bytes from h e (one-more {end = end} {t} {rest} {ends} {texts} q l) =
     let end-in : end ≤ length bytes = omega (arith, q, n, h) in
     let len : end - from ≡ length t = omega (arith, q) in
     let r : drop end bytes ≡ rest =
-      sym (behind-end bytes from end (omega (arith, q))) ∙ ap (λ (k : ℕ). drop k (drop from bytes)) len ∙ ap (drop (length t)) e ∙ drop-append-seam t rest in
+    sym (behind-end bytes from end (omega (arith, q))) ∙ ap (λ (k : ℕ). drop k (drop from bytes)) len ∙ ap (drop (length t)) e ∙ drop-append-seam t rest in
     let c = cut-out bytes end end-in r l in
     let this-text : take (end - from) (drop from bytes) ≡ t = ap (λ (k : ℕ). take k (drop from bytes)) len ∙ ap (take (length t)) e ∙ take-append-seam t rest in
     (ordered (length bytes) from end ends (omega (arith, q)) end-in (c .0), rw (this-text, c .1) refl)
 
 -- texts lie as the ends say exactly where no end falls or passes the bytes
 pub lie : (bytes ends : List ℕ) → (FallOrPass (length bytes) 0 ends → ⊥) ↔ ((texts : List (List ℕ)) × Lie 0 bytes ends texts)
-lie bytes ends =
-    (λ h. by-test (inOrder (length bytes) 0 ends) (λ e. (cut bytes 0 ends, lies bytes 0 ends zero-le e)) (λ e. absurd (h (bad (length bytes) 0 ends e))),
-     λ l. not-bad (length bytes) 0 ends (cut-out bytes 0 zero-le refl (l .1) .0))
+lie bytes ends = (
+  λ h. by-test (inOrder (length bytes) 0 ends) (λ e. (cut bytes 0 ends, lies bytes 0 ends zero-le e)) (λ e. absurd (h (bad (length bytes) 0 ends e))),
+  λ l. not-bad (length bytes) 0 ends (cut-out bytes 0 zero-le refl (l .1) .0),
+)
 
 -- ---- answers
 

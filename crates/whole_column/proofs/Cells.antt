@@ -42,10 +42,11 @@ module _ (read : List ℕ → Outcome ℤ) (bytes ends : List ℕ) where
     -- the first cells hold the values in order, later cells are unchanged, and there are as many as before
     pub held : whole read bytes ends (length cells) ≡ all-accepted zs
         → (take (length ends) (stored zs cells) ≡ zs) × (drop (length ends) (stored zs cells) ≡ drop (length ends) cells)
-          × (length (stored zs cells) ≡ length cells)
+        × (length (stored zs cells) ≡ length cells)
     unfolding stored
     held e =
-        let q = as-many e in
-        (rw (← q .0) (take-append-seam zs _),
-         rw (← q .0) (drop-append-seam zs _),
-         rw (length-append zs (drop (length zs) cells), length-drop (length zs) cells) (omega (arith, q .0, q .1)))
+        let q = as-many e in (
+          rw (← q .0) (take-append-seam zs _),
+          rw (← q .0) (drop-append-seam zs _),
+          rw (length-append zs (drop (length zs) cells), length-drop (length zs) cells) (omega (arith, q .0, q .1)),
+        )

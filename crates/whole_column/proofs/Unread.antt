@@ -50,7 +50,7 @@ same-texts head more from [] h e = refl
 same-texts head more from (end ∷ ends) h e =
     let q = in-order (length head) from end ends e in
     let t : take (end - from) (drop from head ++ more) ≡ take (end - from) (drop from head) =
-      take-append-le (end - from) (drop from head) more (rw (length-drop from head) (omega (arith, q .0 .0, q .0 .1))) in
+    take-append-le (end - from) (drop from head) more (rw (length-drop from head) (omega (arith, q .0 .0, q .0 .1))) in
     rw (drop-append-le from head more h, t, same-texts head more end ends (q .0 .1) (q .1)) refl
 
 -- whatever stands behind the last end, the answer is that of the bytes before it

@@ -19,9 +19,10 @@ year-starts-requires c κs = search needs
 read-requires : tie.Need-read-requires
 read-requires c κs =
     let t = c .before .before .before in
-    let g = t .before .before .before .before .args in
-    (c .before .before .year-starts .ensures,
-     fitting (g .texts .now) (g .ends .now) (length (g .cells .now)) (sym (t .before .fit .ensures) ∙ t .if1 .taken))
+    let g = t .before .before .before .before .args in (
+      c .before .before .year-starts .ensures,
+      fitting (g .texts .now) (g .ends .now) (length (g .cells .now)) (sym (t .before .fit .ensures) ∙ t .if1 .taken),
+    )
 
 enum-told : tie.Need-enum-told
 enum-told c = search needs
@@ -58,7 +59,7 @@ returns-2 c =
     let t = r .before .before .before .before in
     let g = t .before .before .before .before .args in
     let q = refused-one (reading (g .column)) (g .texts .now) (g .ends .now) (g .cells .now) (sym (t .before .fit .ensures) ∙ t .if1 .taken) _ _
-      (ap refusedAt (sym (c .before .why .given .1)) ∙ r .read .ensures .0) in
+    (ap refusedAt (sym (c .before .why .given .1)) ∙ r .read .ensures .0) in
     (q .0, r .read .ensures .1 ∙ q .1)
 
 returns-3 : tie.Need-returns-3

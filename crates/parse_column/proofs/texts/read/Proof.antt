@@ -87,10 +87,11 @@ returns c =
     let l = p .before .before .before .before in
     let g = l .before .before .before .args in
     let e = sym (ap outcome64 (c .before .why .given .1)) ∙ p .parse .ensures in
-    let h : l .loop .i < length (g .ends .now) = search needs in
-    (sym (l .loop .inv .4 ∙ stops (reading (g .column)) (g .texts .now) (g .ends .now) (l .loop .from) (l .loop .i) h e),
-     sym (l .loop .inv .5 ∙ stored-all (reading (g .column)) (g .texts .now) (g .ends .now) (l .loop .from) (l .loop .i) (g .store) (l .loop .cells)
-          (keeps (reading (g .column)) (g .texts .now) (g .ends .now) (l .loop .from) (l .loop .i) h (l .loop .cells) e)))
+    let h : l .loop .i < length (g .ends .now) = search needs in (
+      sym (l .loop .inv .4 ∙ stops (reading (g .column)) (g .texts .now) (g .ends .now) (l .loop .from) (l .loop .i) h e),
+      sym (l .loop .inv .5 ∙ stored-all (reading (g .column)) (g .texts .now) (g .ends .now) (l .loop .from) (l .loop .i) (g .store) (l .loop .cells)
+          (keeps (reading (g .column)) (g .texts .now) (g .ends .now) (l .loop .from) (l .loop .i) h (l .loop .cells) e)),
+    )
 
 add-i : tie.Need-add-i Inv-loop μ-loop
 add-i c = search needs
@@ -107,12 +108,16 @@ loop-again c =
     let h : l .loop .i < length (g .ends .now) = search needs in
     let q = next (length (g .texts .now)) (l .loop .from) (g .ends .now) (l .loop .i) h (l .loop .inv .2) in
     let k = ⊎-elim
-      (λ w. stored-one (reading (g .column)) (g .texts .now) (g .ends .now) (l .loop .from) (l .loop .i) h (g .store) (l .loop .cells) (c .if1 .cells) e (w .0 .taken) (w .1))
-      (λ w. stored-none (reading (g .column)) (g .texts .now) (g .ends .now) (l .loop .from) (l .loop .i) h (g .store) (l .loop .cells) (c .if1 .cells) e (w .0 .left) (w .1))
-      (c .if1 .came) in
-    (search needs, q .0 .1, q .1, omega (arith, k .0, l .loop .inv .3),
-     l .loop .inv .4 ∙ goes-on (reading (g .column)) (g .texts .now) (g .ends .now) (l .loop .from) (l .loop .i) h e,
-     l .loop .inv .5 ∙ k .1)
+    (λ w. stored-one (reading (g .column)) (g .texts .now) (g .ends .now) (l .loop .from) (l .loop .i) h (g .store) (l .loop .cells) (c .if1 .cells) e (w .0 .taken) (w .1))
+    (λ w. stored-none (reading (g .column)) (g .texts .now) (g .ends .now) (l .loop .from) (l .loop .i) h (g .store) (l .loop .cells) (c .if1 .cells) e (w .0 .left) (w .1))
+    (c .if1 .came) in (
+      search needs,
+      q .0 .1,
+      q .1,
+      omega (arith, k .0, l .loop .inv .3),
+      l .loop .inv .4 ∙ goes-on (reading (g .column)) (g .texts .now) (g .ends .now) (l .loop .from) (l .loop .i) h e,
+      l .loop .inv .5 ∙ k .1,
+    )
 
 same-length-2 : tie.Need-same-length-2 Inv-loop μ-loop
 same-length-2 c = search needs
@@ -120,10 +125,11 @@ same-length-2 c = search needs
 returns-2 : tie.Need-returns-2 Inv-loop μ-loop
 returns-2 c =
     let l = c .before in
-    let g = l .before .before .before .args in
-    (sym (l .loop .inv .4 ∙ none-left (reading (g .column)) (g .texts .now) (g .ends .now) (l .loop .from) (l .loop .i) (search needs)),
-     sym (l .loop .inv .5 ∙ stored-all (reading (g .column)) (g .texts .now) (g .ends .now) (l .loop .from) (l .loop .i) (g .store) (l .loop .cells)
-          (none-stored (reading (g .column)) (g .texts .now) (g .ends .now) (l .loop .from) (l .loop .i) (l .loop .cells) (search needs))))
+    let g = l .before .before .before .args in (
+      sym (l .loop .inv .4 ∙ none-left (reading (g .column)) (g .texts .now) (g .ends .now) (l .loop .from) (l .loop .i) (search needs)),
+      sym (l .loop .inv .5 ∙ stored-all (reading (g .column)) (g .texts .now) (g .ends .now) (l .loop .from) (l .loop .i) (g .store) (l .loop .cells)
+          (none-stored (reading (g .column)) (g .texts .now) (g .ends .now) (l .loop .from) (l .loop .i) (l .loop .cells) (search needs))),
+    )
 
 pub read-spec : {M : Type 1} → statement M
 read-spec =
