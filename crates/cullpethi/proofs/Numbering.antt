@@ -10,10 +10,10 @@ use Rattle.rule.specs.Contribution.{Counts}
 use Rattle.rule.specs.Answer.{monthDayNano}
 use lib.IntN.{ℤ}
 use lib.ListN.{length, take}
-use Rattle.cells.specs.Cells.{ToldAt, Tells}
+use Rattle.cells.specs.Cells.{ToldColumn, Tells}
 use Rattle.column.specs.Columns.{column}
 use Rattle.column.specs.declared.Column.{Column}
-use Rattle.parse_column.specs.Read.{wholeOf}
+use Rattle.parse_column.specs.Read.{Answers}
 use Rattle.parse_column.specs.declared.ColumnRead.{ColumnRead}
 use Rattle.whole_column.specs.Answer.{whole, cellsAfter}
 use Rattle.cullpethi.specs.ColumnNumber.{inColumn}
@@ -24,14 +24,11 @@ pub in-unit : {o : Outcome Counts} {u v : IntervalUnit} {m : Option IntervalUnit
 in-unit t e q s = e ∙ ap (λ (w : IntervalUnit). monthDayNano precision w t) q ∙ ap (λ (w : Option IntervalUnit). inUnit w t) s
 
 module _ (bytes ends : List ℕ) (cells : List ℤ) (status i j : ℕ) where
-  abbrev ToldColumn : Option Column → List ℤ → Type 0
-  ToldColumn m after = ToldAt (inColumn m bytes ends (length cells)) status i j × (after ≡ cellsAfter (inColumn m bytes ends (length cells)) cells)
-
   pub in-column : {m : Option Column} (r : ColumnRead) (after : List ℤ) (c : Column) → some c ≡ m
-      → (wholeOf r (take (length ends) after) ≡ whole (column c) bytes ends (length cells)) × (after ≡ cellsAfter (whole (column c) bytes ends (length cells)) cells)
-      → Tells r status i j → ToldColumn m after
+      → Answers (whole (column c) bytes ends (length cells)) r (length ends) cells after
+      → Tells r status i j → ToldColumn (inColumn m bytes ends (length cells)) status i j cells after
   in-column r after c e q t = rw (← e) (rw (q .0) at (t (take (length ends) after)), q .1)
 
-  pub no-column : {m : Option Column} → none ≡ m → status ≡ 255 → j ≡ i → ToldColumn m cells
+  pub no-column : {m : Option Column} → none ≡ m → status ≡ 255 → j ≡ i → ToldColumn (inColumn m bytes ends (length cells)) status i j cells cells
   unfolding cellsAfter
   no-column e s k = rw (← e) ((s, k), refl)

@@ -37,13 +37,11 @@ ghost use Rattle.time.specs.Answer.{timeNanos};
 ghost use Rattle.stamp_text.specs.Answer.{stampNanos};
 ghost use Rattle.site.specs.Site.{siteNanos};
 ghost use Rattle.unit.specs.Units.{unitNumbered};
-ghost use Rattle.cells.specs.Cells.{Told, ToldAt};
+ghost use Rattle.cells.specs.Cells.{Told, ToldColumn};
 ghost use Rattle.parse_column.specs.Numbers.{columnNumbered};
-ghost use Rattle.whole_column.specs.Answer.{cellsAfter};
 ghost use Rattle.cullpethi.specs.ColumnNumber.{inColumn};
 ghost use Rattle.cullpethi.specs.DefaultUnit.{inUnit};
 ghost use lib.ListN.{length};
-ghost use mathlib.Core.Path.{_≡_};
 
 // A stamp, in nanoseconds since 1970-01-01.
 #[no_mangle]
@@ -214,7 +212,7 @@ pub extern "C" fn cullpethi_parse_column(
     cells: &mut [i64],
     index: &mut usize,
 ) -> u8
-    ensures { λ r. ⌜ ToldAt (inColumn (columnNumbered «column») (now (texts .entry)) (now (ends .entry)) (length (now (cells .entry)))) r (now (index .entry)) (now (index .exit)) × (now (cells .exit) ≡ cellsAfter (inColumn (columnNumbered «column») (now (texts .entry)) (now (ends .entry)) (length (now (cells .entry)))) (now (cells .entry))) ⌝ }
+    ensures { λ r. ⌜ ToldColumn (inColumn (columnNumbered «column») (now (texts .entry)) (now (ends .entry)) (length (now (cells .entry)))) r (now (index .entry)) (now (index .exit)) (now (cells .entry)) (now (cells .exit)) ⌝ }
 {
     match column_numbered(column) {
         ColumnNamed::Column(column) => put_index(parse_column(column, texts, ends, cells), index),

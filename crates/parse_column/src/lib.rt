@@ -16,12 +16,12 @@ use time_column::Time32SecondType;
 use time_column::Time64MicrosecondType;
 use time_column::Time64NanosecondType;
 ghost use mathlib.Core.Path.{_≡_};
-ghost use lib.ListN.{length, take};
+ghost use lib.ListN.{length};
 ghost use Rattle.column.specs.Columns.{column as reads};
 ghost use Rattle.calendar.specs.Cycle.{YearStarts};
 ghost use Rattle.refusal.specs.Outcome.{outcome32, outcome64};
-ghost use Rattle.whole_column.specs.Answer.{whole, cellsAfter};
-ghost use Rattle.parse_column.specs.Read.{wholeOf};
+ghost use Rattle.whole_column.specs.Answer.{whole};
+ghost use Rattle.parse_column.specs.Read.{Answers};
 
 mod ends;
 pub mod numbers;
@@ -34,9 +34,9 @@ pub enum ColumnRead {
     NotRead(Refusal),
 }
 
-// The table of year starts is made once for the column.
+// The values of all texts into the first cells, or the first refused text. The table of year starts is made once for the column.
 pub fn parse_column(column: Column, texts: &[u8], ends: &[u32], cells: &mut [i64]) -> ColumnRead
-    ensures { λ r. ⌜ (wholeOf r (take (length (now (ends .entry))) (now (cells .exit))) ≡ whole (reads «column») (now (texts .entry)) (now (ends .entry)) (length (now (cells .entry)))) × (now (cells .exit) ≡ cellsAfter (whole (reads «column») (now (texts .entry)) (now (ends .entry)) (length (now (cells .entry)))) (now (cells .entry))) ⌝ }
+    ensures { λ r. ⌜ Answers (whole (reads «column») (now (texts .entry)) (now (ends .entry)) (length (now (cells .entry)))) r (length (now (ends .entry))) (now (cells .entry)) (now (cells .exit)) ⌝ }
 {
     if ends::fit(texts, ends, cells.len()) {
         let starts = calendar::year_starts();

@@ -1,10 +1,10 @@
 -- What a whole column means and what is computed of it are the same (`agrees`), so bytes, ends and a number of cells have one answer; and
 -- texts lie as the ends say exactly where the ends neither fall nor pass the bytes (`lie`). Assumes nothing.
 use mathlib.Core.Path.{_≡_, refl, sym, ap, _∙_}
-use mathlib.Core.Bool.{Bool, true, false, cond, _&&_}
+use mathlib.Core.Bool.{true, false}
 use mathlib.Core.Logic.{_↔_}
 use mathlib.Core.List.{List, [], _∷_, _++_}
-use Prim.Native.Nat.{ℕ, zero, suc, _+_, _-_, _≤_, _<_, zero-le}
+use Prim.Native.Nat.{ℕ, _+_, _-_, _≤_, zero-le}
 use native.Mathlib.Omega.{arith}
 use lib.Dec.{leb}
 use lib.IntN.{ℤ}
@@ -13,8 +13,8 @@ use lib.Seq.{drop-drop, length-take-le, take-append-seam, drop-append-seam}
 use borrow.Author.Tests.{leb-true, leb-false, le-leb, lt-leb}
 use Rattle.refusal.specs.Outcome.{Outcome, accepted, refused}
 use Rattle.text.specs.Digits.{within}
-use Rattle.text.proofs.Bools.{by-test, both-ways, and-left, and-right, and-false, within-yes, within-under, within-over, within-is}
-use Rattle.whole_column.specs.Answer.{Whole, all-accepted, first-refused, not-read, inOrder, cut, behind, onText, readAll, whole}
+use Rattle.text.proofs.Bools.{by-test, both-ways, and-left, and-right, and-false, within-yes, within-is}
+use Rattle.whole_column.specs.Answer.{Whole, all-accepted, first-refused, inOrder, cut, behind, onText, readAll, whole}
 use Rattle.whole_column.specs.Meaning.{Lie, no-more, one-more, FallOrPass, falls, passes, later, AllAccepted, none, one, FirstRefused, this, a-later, Means, accepts, refuses, bad-ends, too-few-cells}
 
 -- ---- ends

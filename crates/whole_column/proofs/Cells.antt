@@ -1,14 +1,14 @@
 -- What the cells hold where every text is accepted: as many values as ends, in the first cells in order, and later cells as they were
 -- (`held`). Assumes nothing.
-use mathlib.Core.Path.{_≡_, refl, sym, ap, _∙_}
-use mathlib.Core.List.{List, [], _∷_, _++_}
-use Prim.Native.Nat.{ℕ, suc, _-_, _+_, _≤_}
+use mathlib.Core.Path.{_≡_, refl, ap, _∙_}
+use mathlib.Core.List.{List}
+use Prim.Native.Nat.{ℕ, suc, _-_, _≤_}
 use native.Mathlib.Omega.{arith}
 use lib.IntN.{ℤ}
 use lib.ListN.{length, take, drop, length-append, length-drop}
 use lib.Seq.{take-append-seam, drop-append-seam}
 use Rattle.refusal.specs.Outcome.{Outcome}
-use Rattle.whole_column.specs.Answer.{Whole, all-accepted, first-refused, not-read, stored, whole, cellsAfter}
+use Rattle.whole_column.specs.Answer.{Whole, all-accepted, first-refused, not-read, stored, whole}
 use Rattle.whole_column.specs.Meaning.{Lie, no-more, one-more, AllAccepted, none, one, Means, accepts, refuses, bad-ends, too-few-cells}
 use Rattle.whole_column.proofs.Agreement.{agrees}
 

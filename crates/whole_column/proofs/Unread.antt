@@ -1,17 +1,16 @@
 -- What a whole column's answer does not depend on: the bytes past the last end (`unread`); and 13 neither on the reader nor on what the
 -- bytes are (`before-any-text`). Assumes nothing.
-use mathlib.Core.Path.{_≡_, refl, sym, ap, _∙_}
-use mathlib.Core.Bool.{Bool, true, false, cond, _&&_}
+use mathlib.Core.Path.{_≡_, refl, sym, _∙_}
+use mathlib.Core.Bool.{true}
 use mathlib.Core.List.{List, [], _∷_, _++_}
 use Prim.Native.Nat.{ℕ, _-_, _+_, _≤_, zero-le}
 use native.Mathlib.Omega.{arith}
-use lib.Dec.{leb}
 use lib.IntN.{ℤ}
 use lib.ListN.{length, take, drop, length-append, length-drop}
 use lib.Seq.{take-append-le, drop-append-le}
 use Rattle.refusal.specs.Outcome.{Outcome}
 use Rattle.text.proofs.Bools.{by-test, both-ways}
-use Rattle.whole_column.specs.Answer.{Whole, all-accepted, first-refused, not-read, inOrder, cut, behind, onText, readAll, whole}
+use Rattle.whole_column.specs.Answer.{Whole, all-accepted, first-refused, not-read, inOrder, cut, behind, whole}
 use Rattle.whole_column.specs.Meaning.{Means, accepts, refuses, bad-ends, too-few-cells}
 use Rattle.whole_column.proofs.Agreement.{in-order, ordered, agrees}
 

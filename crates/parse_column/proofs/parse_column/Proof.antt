@@ -1,6 +1,6 @@
 -- `parse_column::parse_column` meets its contract: 13; or the first reading finds a refused text; or the second stores all values.
 -- Assumes nothing.
-use mathlib.Core.Path.{_≡_, sym, ap, _∙_}
+use mathlib.Core.Path.{sym, ap, _∙_}
 use lib.ListN.{length}
 use Rattle.column.specs.Columns.{column as reading}
 use Rattle.parse_column.specs.Helpers.{refusedAt, storedFrom}

@@ -3,14 +3,12 @@ use mir.Syntax.{w32, w64}
 use mir.Facts.{fits-widen}
 use Rattle.parse_column.proofs.Order.{falls, passes, goes-on, no-end}
 use mathlib.Core.Path.{_≡_, refl, sym, _∙_}
-use Prim.Native.Nat.{_+_, _-_, _≤_}
-use lib.ListN.{length, getD, drop}
+use Prim.Native.Nat.{_-_, _≤_}
+use lib.ListN.{length, drop}
 use borrow.Author.Needs.{needs}
 use Rattle.whole_column.specs.Answer.{inOrder}
 use Rattle.parse_column.proofs.ends.in_order.Statement.{statement}
 use Rattle.parse_column.proofs.ends.in_order.Tie as tie
-use Rattle.parse_column.proofs.ends.in_order.Reads as reads
-use Rattle.parse_column.proofs.ends.in_order.Lts as lts
 
 abbrev Inv-loop : tie.InvT-loop
 Inv-loop bytes ends i₀ from₀ i from = (i ≤ length ends) × (inOrder bytes 0 ends ≡ inOrder bytes from (drop i ends))

@@ -2,9 +2,9 @@
 use mathlib.Core.Path.{_≡_, refl, sym, ap, _∙_}
 use mathlib.Core.Bool.{true, cond}
 use mathlib.Core.Logic.{⊎-elim}
-use Prim.Native.Nat.{_+_, _-_, _≤_, _<_}
+use Prim.Native.Nat.{_-_, _≤_, _<_}
 use native.Mathlib.Omega.{arith}
-use lib.ListN.{length, getD, take, drop, set}
+use lib.ListN.{length, drop}
 use borrow.Author.Needs.{needs}
 use mir.Syntax.{w32, w64}
 use mir.Facts.{fits-widen}
@@ -13,13 +13,10 @@ use Rattle.whole_column.specs.Answer.{inOrder, cut}
 use Rattle.refusal.specs.Outcome.{outcome64}
 use Rattle.refusal.proofs.Outcomes.{back}
 use Rattle.parse_column.proofs.Order.{next}
-use Rattle.parse_column.proofs.Turns.{goes-on, stops, stores, keeps, none-left, none-stored, stored-one, stored-none, stored-all}
+use Rattle.parse_column.proofs.Turns.{goes-on, stops, keeps, none-left, none-stored, stored-one, stored-none, stored-all}
 use Rattle.parse_column.specs.Helpers.{refusedFrom, storedFrom}
 use Rattle.parse_column.proofs.texts.read.Statement.{statement}
 use Rattle.parse_column.proofs.texts.read.Tie as tie
-use Rattle.parse_column.proofs.texts.read.Reads as reads
-use Rattle.parse_column.proofs.texts.read.Lts as lts
-use Rattle.parse_column.proofs.parse.Reads as parse-reads
 
 abbrev Inv-loop : tie.InvT-loop
 Inv-loop starts column texts ends cells₀ store i₀ from₀ cells i from =
