@@ -119,6 +119,7 @@ uint8_t cullpethi_parse_interval_month_day_nano_config(const uint8_t *text, size
 
 /* A whole column of cullpethi_column. The texts lie end to end in `texts_len` bytes at `texts`: text i is the bytes from the end before it,
  * ends[i - 1], 0 for the first, up to ends[i]. There are `ends_len` of them, and `cells_len` cells; a value of 32 bits keeps its number.
+ * Texts, ends, cells and `index` are apart from one another.
  *
  * CULLPETHI_OK: every text is accepted, cells[i] holds the value of text i, and later cells are as they were; `index` too.
  * CULLPETHI_NO_COLUMN, then CULLPETHI_COLUMN: no text is read, and cells and `index` are as they were.

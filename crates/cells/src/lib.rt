@@ -1,4 +1,4 @@
-// An answer as a status and cells: the one place that writes what a caller lent.
+// An answer as a status and cells: the one place that writes what a caller lent, but for the cells of a whole column.
 use interval::DayTimeRead;
 use parse_column::ColumnRead;
 use refusal::Read32;
