@@ -1,21 +1,19 @@
--- Fraction digits as nanoseconds, as the code counts them: a digit more, the end of the digits, and digits up to a place. Assumes nothing.
-use mathlib.Core.Path.{_≡_, refl, sym, ap, _∙_}
+-- Fraction digits as nanoseconds, as the code counts them: a digit more, and the end of the digits. Assumes nothing.
+use mathlib.Core.Path.{_≡_, sym, ap, _∙_}
 use mathlib.Core.List.{List, [], _∷_}
-use Prim.Native.Nat.{ℕ, zero, suc, _+_, _*_, _-_, _^_, _≤_, _<_, min}
+use Prim.Native.Nat.{ℕ, suc, _+_, _*_, _-_, _^_, _≤_, _<_}
 use native.Mathlib.Omega.{arith}
 use native.Mathlib.Numerals.{add-one}
-use native.Mathlib.Nat.{le-refl, le-trans, le-of-lt, le-mul-of-pos-right, min-eq-left, min-eq-right}
-use lib.Dec.{leb, ltb}
+use native.Mathlib.Nat.{le-trans, le-mul-of-pos-right}
+use lib.Dec.{ltb}
 use lib.ListN.{getD, length, take, drop, length-take, List·getD-eq-default}
 use lib.Pow.{pow-add}
-use lib.Seq.{drop-cons, take-nil, take-take, take-all, take-length}
-use borrow.Author.Tests.{leb-true, leb-false, ltb-true, ltb-false}
-use Rattle.text.specs.Digits.{isDigit, worth, digitOf, value, run}
+use lib.Seq.{drop-cons, take-nil}
+use borrow.Author.Tests.{ltb-true, ltb-false}
+use Rattle.text.specs.Digits.{worth, digitOf, value, run}
 use Rattle.text.proofs.Bools.{by-test}
-use Rattle.text.proofs.DigitLaws.{is-digit, is-worth, run-off, run-end, grows}
-use Rattle.text.proofs.DigitLists.{run-take}
+use Rattle.text.proofs.DigitLaws.{is-digit, is-worth, run-on, run-off, run-end, grows}
 use Rattle.text.proofs.Values.{ten-pos}
-use Rattle.clock.specs.Clock.{nanosOf}
 
 -- at most k digits, and the places that they leave of k
 pub places : (k : ℕ) (f : List ℕ) → 10 ^ length (take k f) * 10 ^ (k - length (take k f)) ≡ 10 ^ k
@@ -51,23 +49,25 @@ grows-behind k a f =
 abbrev pub led : List ℕ → List ℕ
 led t = take (run t) t
 
--- at most n of them, by the definition
-abbrev pub counted : ℕ → List ℕ → ℕ
-counted n t = nanosOf (take n (led t))
-
 -- d is the byte at i less 48; past the end that is 208
 module _ (s : List ℕ) (i d : ℕ) (fits : getD s i 0 < 256) (e : d ≡ digitOf (getD s i 0)) where
-  inside : d < 10 → i < length s
+  pub inside : d < 10 → i < length s
   inside g =
       by-test (ltb i (length s))
       (λ t. ltb-true i (length s) t)
       (λ t. absurd (omega (arith, List·getD-eq-default s 0 {n = i} (ltb-false i (length s) t))))
 
-  led-off : 10 ≤ d → led (drop i s) ≡ []
-  led-off g =
+  pub ends-here : 10 ≤ d → run (drop i s) ≡ 0
+  ends-here g =
       by-test (ltb i (length s))
-      (λ t. rw (run-off s i d (ltb-true i (length s) t) fits e g))
-      (λ t. rw (run-end s i (ltb-false i (length s) t)))
+      (λ t. run-off s i d (ltb-true i (length s) t) fits e g)
+      (λ t. run-end s i (ltb-false i (length s) t))
+
+  pub goes-on : d < 10 → run (drop i s) ≡ suc (run (drop (i + 1) s))
+  goes-on g = run-on s i d (inside g) fits e g
+
+  led-off : 10 ≤ d → led (drop i s) ≡ []
+  led-off g = rw (ends-here g)
 
   led-on : d < 10 → led (drop i s) ≡ getD s i 0 ∷ led (drop (i + 1) s)
   unfolding run
@@ -80,26 +80,3 @@ module _ (s : List ℕ) (i d : ℕ) (fits : getD s i 0 < 256) (e : d ≡ digitOf
   digit-here k a l g =
       let z : k - i ≡ suc (k - (i + 1)) = omega arith in
       rw (z, led-on g, one-more (k - (i + 1)) a (getD s i 0) (led (drop (i + 1) s)), is-worth (getD s i 0) d fits e g)
-
--- ---- at most n of the bytes
-
--- their digits
-led-take : (n : ℕ) (t : List ℕ) → led (take n t) ≡ take n (led t)
-unfolding run
-led-take zero t = refl
-led-take (suc n) [] = refl
-led-take (suc n) (b ∷ t) = by-test (isDigit b) (λ e. rw (e, led-take n t)) (λ e. rw e)
-
--- where there are fewer
-at-most : (n : ℕ) (t : List ℕ) → take (min n (length t)) t ≡ take n t
-at-most n t =
-    by-test (leb n (length t))
-    (λ e. rw (min-eq-left (leb-true n (length t) e)))
-    (λ e. let h : length t ≤ n = le-of-lt (leb-false n (length t) e) in rw (min-eq-right h, take-length, take-all n t h))
-
-pub cut : (n : ℕ) {end : ℕ} (t : List ℕ) → end ≡ min n (length t) → nanosOf (led (take end t)) ≡ counted n t
-cut n t e = rw (e, at-most n t, led-take n t)
-
--- a run of digits is its own run
-pub of-run : (t : List ℕ) → counted (run t) (take (run t) t) ≡ nanosOf (take (run t) t)
-of-run t = rw (run-take t, take-take (run t) (run t) t (le-refl (run t)), take-take (run t) (run t) t (le-refl (run t)))

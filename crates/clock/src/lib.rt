@@ -2,9 +2,9 @@
 ghost use mathlib.Core.Path.{_≡_};
 ghost use mathlib.Core.Bool.{cond, _&&_};
 ghost use mathlib.Core.Option.{none, some};
-ghost use Prim.Native.Nat.{_+_, _-_, _*_, _^_, _<_, min};
+ghost use Prim.Native.Nat.{_+_, _-_, _*_, _^_, _≤_, _<_};
 ghost use lib.Dec.{ltb};
-ghost use lib.ListN.{take};
+ghost use lib.ListN.{length, take};
 ghost use Rattle.text.specs.Digits.{run};
 ghost use Rattle.clock.specs.Clock.{inRange, nanosOf, timeIs};
 
@@ -20,30 +20,34 @@ pub enum Time {
     None,
 }
 
-// The digits that a text begins with, at most n of them, as nanoseconds: nine count.
-pub fn parse_nanos(digits: &[u8], n: usize) -> u32
-    ensures { λ r. ⌜ (r ≡ nanosOf (take n (take (run (now (digits .entry))) (now (digits .entry))))) × (r < 1000000000) ⌝ }
-{
-    let end = least(n, digits.len());
-    nanos_of(&digits[..end])
+// The digits of a fraction: what they count, and how many they are.
+pub struct Secfrac {
+    pub nanos: u32,
+    pub digits: usize,
 }
 
+// The digits that a text begins with, as nanoseconds: nine count, and those behind are passed over.
 // Their number, and one product where they end: a unit for each digit would be a division by ten in each turn.
-// Nine turns at most, so that they are compiled one by one.
-fn nanos_of(s: &[u8]) -> u32
-    ensures { λ r. ⌜ (r ≡ nanosOf (take (run (now (s .entry))) (now (s .entry)))) × (r < 1000000000) ⌝ }
+pub fn parse_nanos(s: &[u8]) -> Secfrac
+    ensures { λ r. ⌜ (r .nanos ≡ nanosOf (take (run (now (s .entry))) (now (s .entry)))) × (r .nanos < 1000000000) × (r .digits ≡ run (now (s .entry))) × (r .digits ≤ length (now (s .entry))) ⌝ }
 {
     let mut nanos: u32 = 0;
     let mut i = 0;
     while i < 9 {
         let d = text::digits::digit(text::byte_at(s, i));
         if 10 <= d {
-            return nanos * scale(i);
+            return Secfrac {
+                nanos: nanos * scale(i),
+                digits: i,
+            };
         }
         nanos = nanos * 10 + d as u32;
         i += 1;
     }
-    nanos
+    Secfrac {
+        nanos,
+        digits: text::digits::run_end(s, 9),
+    }
 }
 
 // Ten to the places that i digits leave of nine.
@@ -62,12 +66,6 @@ fn scale(i: usize) -> u32
         7 => 100,
         _ => 10,
     }
-}
-
-fn least(a: usize, b: usize) -> usize
-    ensures { λ r. ⌜ r ≡ min a b ⌝ }
-{
-    if a < b { a } else { b }
 }
 
 // chrono's `NaiveTime::from_hms_nano_opt`, with second 60 held as second 59 and 1,000,000,000 more nanoseconds.

@@ -12,7 +12,6 @@ use borrow.Author.Tests.{lt-ltb, ltb-true, ltb-false, eq-eqb, ne-eqb}
 use Rattle.text.specs.Digits.{digitOf, run, value}
 use Rattle.text.proofs.Bools.{by-test}
 use Rattle.clock.specs.Clock.{inRange, nanosOf}
-use Rattle.clock.proofs.Nanos.{of-run, counted}
 use Rattle.stamp_text.specs.Answer.{Timed, afterSeconds, timedAt}
 use Rattle.text.proofs.TwoDigits.{sign-test}
 
@@ -48,11 +47,9 @@ module _ (s : List ℕ) {d : ℕ} (fits : (i : ℕ) → getD s i 0 < 256) (e : d
     point-alone p z = rw (sym point-test ∙ eq-eqb d 254 p, drop-drop 1 19 s, z)
 
     pub fraction :
-        d ≡ 254 → {n end : ℕ} →
-        end ≡ 20 + run (drop 20 s) → (end ≡ 20 → ⊥) →
-        n ≡ counted (end - 20) (take (end - 20) (drop 20 s)) → timedAt h m x n (drop end s) ≡ afterSeconds h m x (drop 19 s)
-    fraction p {n} {end} q z en =
-        let r : end - 20 ≡ run (drop 20 s) = omega arith in
-        let v : n ≡ nanosOf (take (run (drop 20 s)) (drop 20 s)) = (rw r at en) ∙ of-run (drop 20 s) in
-        let w : drop end s ≡ drop (run (drop 20 s)) (drop 20 s) = ap (λ (k : ℕ). drop k s) q ∙ sym (drop-drop (run (drop 20 s)) 20 s) in
-        rw (sym point-test ∙ eq-eqb d 254 p, drop-drop 1 19 s, ne-eqb (run (drop 20 s)) 0 (λ o. z (omega arith)), v, w)
+        d ≡ 254 → {n k : ℕ} →
+        k ≡ run (drop 20 s) → (k ≡ 0 → ⊥) →
+        n ≡ nanosOf (take (run (drop 20 s)) (drop 20 s)) → timedAt h m x n (drop (20 + k) s) ≡ afterSeconds h m x (drop 19 s)
+    fraction p {n} {k} q z v =
+        let w : drop (20 + k) s ≡ drop (run (drop 20 s)) (drop 20 s) = ap (λ (i : ℕ). drop (20 + i) s) q ∙ sym (drop-drop (run (drop 20 s)) 20 s) in
+        rw (sym point-test ∙ eq-eqb d 254 p, drop-drop 1 19 s, ne-eqb (run (drop 20 s)) 0 (λ o. z (omega (arith, q, o))), v, w)

@@ -77,12 +77,18 @@ fn after_seconds(s: &[u8], hour: u8, minute: u8, second: u8) -> TimeAndEnd
     if digit(byte_at(s, 19)) != POINT {
         return at(s, hour, minute, second, 0, 19);
     }
-    let end = text::digits::run_end(s, 20);
-    if end == 20 {
+    let fraction = clock::parse_nanos(&s[20..]);
+    if fraction.digits == 0 {
         return TimeAndEnd::None;
     }
-    let nanos = clock::parse_nanos(&s[20..end], end - 20);
-    at(s, hour, minute, second, nanos, end)
+    at(
+        s,
+        hour,
+        minute,
+        second,
+        fraction.nanos,
+        20 + fraction.digits,
+    )
 }
 
 // `092656`, with no digit in the two bytes after it.

@@ -13,12 +13,10 @@ use borrow.Author.Tests.{eq-eqb, ne-eqb}
 use Rattle.text.specs.Digits.{digitOf, digits, run}
 use Rattle.text.proofs.Bools.{and-right, and-false, by-test}
 use Rattle.text.proofs.TwoDigits.{sign}
-use Rattle.text.proofs.Parts.{rest}
 use Rattle.clock.specs.Clock.{nanosOf}
 use Rattle.text.proofs.Runs.{run-all, run-digits}
 use Rattle.text.proofs.Logic.{none-some}
 use Rattle.clock.proofs.Bounds.{nanos-below}
-use Rattle.clock.proofs.Nanos.{counted}
 use Rattle.time.specs.Answer.{fractionOf}
 
 -- ---- a byte and the digits behind it
@@ -59,24 +57,23 @@ module _ (s : List ℕ) (at : ℕ) where
       no-point p = rw here (unless-point (getD s at 0) (drop (at + 1) s) (sym point-test ∙ ne-eqb d 254 p))
 
       pub whole-fraction :
-          d ≡ 254 → {n end : ℕ} →
-          end ≡ at + 1 + run (drop (at + 1) s) → (end ≡ at + 1 → ⊥) → (at + 1 ≤ length s → end ≤ length s) → length s ≤ end →
-          n ≡ counted (end - (at + 1)) (take (length s - (at + 1)) (drop (at + 1) s)) → some n ≡ fractionOf (drop at s)
-      whole-fraction p {n} {end} q z k l en =
+          d ≡ 254 → {n k : ℕ} →
+          k ≡ run (drop (at + 1) s) → k ≤ length (drop (at + 1) s) → (k ≡ 0 → ⊥) → length s - (at + 1) ≤ k →
+          n ≡ nanosOf (take (run (drop (at + 1) s)) (drop (at + 1) s)) → some n ≡ fractionOf (drop at s)
+      whole-fraction p {n} {k} q b z l en =
           let t = drop (at + 1) s in
           let r : length t ≤ run t = omega (arith, length-drop (at + 1) s) in
-          let g : end - (at + 1) ≡ run t = omega arith in
           let w : take (run t) t ≡ t = take-all (run t) t r in
-          let v : n ≡ nanosOf t = rw (rest s (at + 1), g, w, w) at en in
+          let v : n ≡ nanosOf t = rw w at en in
           rw (v, here)
-          (all-fraction (getD s at 0) t (sym point-test ∙ eq-eqb d 254 p) (rw w at (run-digits t)) (omega (arith, k (omega arith), length-drop (at + 1) s)))
+          (all-fraction (getD s at 0) t (sym point-test ∙ eq-eqb d 254 p) (rw w at (run-digits t)) (omega (arith, z, b)))
 
-    -- the digits behind it end at `end`
-    module _ {end : ℕ} (q : end ≡ at + 1 + run (drop (at + 1) s)) where
-      pub point-alone : end ≡ at + 1 → none ≡ fractionOf (drop at s)
+    -- there are k digits behind it
+    module _ {k : ℕ} (q : k ≡ run (drop (at + 1) s)) where
+      pub point-alone : k ≡ 0 → none ≡ fractionOf (drop at s)
       point-alone z = rw here (unless-digits (getD s at 0) (drop (at + 1) s) (λ g. omega arith))
 
-      pub bytes-after : end < length s → none ≡ fractionOf (drop at s)
+      pub bytes-after : k < length s - (at + 1) → none ≡ fractionOf (drop at s)
       bytes-after l = rw here (unless-digits (getD s at 0) (drop (at + 1) s) (λ g. omega (arith, length-drop (at + 1) s)))
 
 -- ---- less than a second

@@ -166,14 +166,14 @@ fn fraction_of(s: &[u8], at: usize) -> Fraction
         return Fraction::None;
     }
     let from = at + 1;
-    let end = text::digits::run_end(s, from);
-    if end == from {
+    let digits = clock::parse_nanos(&s[from..]);
+    if digits.digits == 0 {
         return Fraction::None;
     }
-    if end < s.len() {
+    if digits.digits < s.len() - from {
         return Fraction::None;
     }
-    Fraction::Of(clock::parse_nanos(&s[from..], end - from))
+    Fraction::Of(digits.nanos)
 }
 
 // The hour of the day: 12 AM is 0, 12 PM is 12.
