@@ -66,13 +66,15 @@ fn see(reader: Reader, set: Set, texts: &[String]) {
     }
 }
 
-/// Times each reader on each set, in another order each round or in the same.
+/// Times each reader on each set, in another order each round or in the same. A processor that was idle is slow at first, so one
+/// measurement is thrown away.
 pub fn rows(same_order: bool) -> Vec<Row> {
     let timed = |reader, set| {
         let texts = texts::texts(reader, set)?;
         see(reader, set, &texts);
         Some(sides::times(reader, sides::Order::new(&texts, same_order)))
     };
+    timed(READERS[0].1, Set::Realistic);
     READERS.iter().map(|&(name, reader, bar)| Row { name, reader, bar, times: SETS.map(|set| timed(reader, set)) }).collect()
 }
 
