@@ -16,7 +16,7 @@ pub fn of(text: &[u8]) {
     let mut numbers = [0u32; 16];
     let n = numbers_in(&text[..bar], &mut numbers);
     let from = bar + 1;
-    with(&numbers[..n], &text[from..]);
+    checked(&numbers[..n], &text[from..]);
 }
 
 // The numbers in front, as far as there is room, and how many there are; what is no number counts as 0.
@@ -46,7 +46,7 @@ fn number(s: &[u8]) -> u32 {
 }
 
 // The column's number, how many cells, and the ends.
-fn with(numbers: &[u32], texts: &[u8]) {
+fn checked(numbers: &[u32], texts: &[u8]) {
     if numbers.len() < 2 {
         show::bytes(b"no column or cells");
         return;

@@ -26,12 +26,13 @@ unfoldable pub cut : List ℕ → ℕ → List ℕ → List (List ℕ)
 cut bytes from [] = []
 cut bytes from (end ∷ ends) = take (end - from) (drop from bytes) ∷ cut bytes end ends
 
--- a value in front of what the later texts answer; their indices are one more
+-- a value in front of the later texts' values; a later text's index is one more
 unfoldable pub behind : ℤ → Whole → Whole
 behind z (all-accepted zs) = all-accepted (z ∷ zs)
 behind z (first-refused n i) = first-refused n (suc i)
 behind z (not-read n) = not-read n
 
+-- a text's value in front of what the later ones answer; a refused text whatever they are
 unfoldable pub onText : Outcome ℤ → Whole → Whole
 onText (accepted z) later = behind z later
 onText (refused n) later = first-refused n 0

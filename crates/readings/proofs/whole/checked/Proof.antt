@@ -1,9 +1,9 @@
--- `readings::whole::with` is safe. Assumes nothing.
+-- `readings::whole::checked` is safe. Assumes nothing.
 use mathlib.Core.Path.{sym}
 use lib.Seq.{length-take-le}
 use borrow.Author.Needs.{needs}
-use Rattle.readings.proofs.whole.with.Statement.{statement}
-use Rattle.readings.proofs.whole.with.Tie as tie
+use Rattle.readings.proofs.whole.checked.Statement.{statement}
+use Rattle.readings.proofs.whole.checked.Tie as tie
 
 slice-aggregate-bytes : tie.Need-slice-aggregate-bytes
 slice-aggregate-bytes c = search needs
@@ -71,8 +71,8 @@ called-requires c κs = search needs
 returns-4 : tie.Need-returns-4
 returns-4 c = search needs
 
-pub with-spec : {M : Type 1} → statement M
-with-spec =
+pub checked-spec : {M : Type 1} → statement M
+checked-spec =
     tie.close
     (tie.spec
     slice-aggregate-bytes
