@@ -7,6 +7,7 @@ use Rattle.column.specs.declared.Column.the-variants.{TimestampNanosecond, Time
 use Rattle.parse_column.specs.declared.numbers.ColumnNamed.{ColumnNamed}
 use Rattle.parse_column.specs.declared.numbers.ColumnNamed.the-variants.{Column as Named, None}
 
+-- the columns in the order of their numbers
 abbrev pub columns : List Column
 columns =
     TimestampNanosecond ∷ TimestampMicrosecond ∷ TimestampMillisecond ∷ TimestampSecond ∷
