@@ -172,13 +172,6 @@ pub fn refusal(why: Refusal, n: usize, out: &mut [u8]) -> usize {
             n,
             out,
         ),
-        _ => later_refusal(why, n, out),
-    }
-}
-
-// Those of intervals and behind. No reader of this program gives the last.
-fn later_refusal(why: Refusal, n: usize, out: &mut [u8]) -> usize {
-    match why {
         Refusal::Interval => put(b"an interval text has no division", n, out),
         Refusal::RepeatedUnit => put(b"a unit comes twice", n, out),
         Refusal::Overflow => put(b"a contribution or a running total does not fit", n, out),
@@ -188,11 +181,11 @@ fn later_refusal(why: Refusal, n: usize, out: &mut [u8]) -> usize {
             n,
             out,
         ),
+        // No reader of this program gives it.
         Refusal::Column => put(
             b"the ends of a column's texts fall or pass the bytes, or there are fewer cells than ends",
             n,
             out,
         ),
-        _ => n,
     }
 }

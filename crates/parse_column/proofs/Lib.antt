@@ -1,4 +1,3 @@
-mod Numbering
 mod Order
 mod Passes
 mod Turns

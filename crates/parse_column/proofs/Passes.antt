@@ -12,6 +12,7 @@ use lib.ListN.{length, take, drop, set, length-set, take-append-drop}
 use lib.Seq.{take-suc-set, drop-set-lt, append-snoc}
 use borrow.Author.Tests.{leb-true}
 use Rattle.text.proofs.Bools.{and-left, and-right}
+use Rattle.text.proofs.Logic.{none-some}
 use Rattle.refusal.specs.Outcome.{Outcome, accepted, refused}
 use Rattle.whole_column.specs.Answer.{Whole, all-accepted, first-refused, not-read, inOrder, cut, behind, onText, readAll, whole, stored, cellsAfter}
 use Rattle.whole_column.proofs.Cells.{held}
@@ -28,9 +29,6 @@ pub fitting : (bytes ends : List ℕ) (cells : ℕ) → inOrder (length bytes) 0
 fitting bytes ends cells e =
     let b = inOrder (length bytes) 0 ends in
     (and-left b (leb (length ends) cells) e, leb-true (length ends) cells (and-right b (leb (length ends) cells) e))
-
-no-refusal : {A : Type 0} {x : ℕ × ℕ} → none ≡ some x → A
-no-refusal e = let x : _≡_ {A = ℕ} 0 1 = cc in absurd (omega arith)
 
 both : {m n i j : ℕ} → _≡_ {A = Option (ℕ × ℕ)} (some (m, i)) (some (n, j)) → (m ≡ n) × (i ≡ j)
 both {m} {n} {i} {j} e =
@@ -77,7 +75,7 @@ module _ (read : List ℕ → Outcome ℤ) where
       → none ≡ orLater o i (refusedFrom read (suc i) texts) → AllRead i (t ∷ texts)
   unfolding orLater
   on-text i t texts (accepted z) q later e = read-one i t texts z q (later e)
-  on-text i t texts (refused n) q later e = no-refusal e
+  on-text i t texts (refused n) q later e = none-some e
 
   all-read : (i : ℕ) (texts : List (List ℕ)) → none ≡ refusedFrom read i texts → AllRead i texts
   unfolding readAll refusedFrom storedFrom
@@ -103,7 +101,7 @@ module _ (read : List ℕ → Outcome ℤ) where
 
   one-refused : (i : ℕ) (texts : List (List ℕ)) (n j : ℕ) → some (n, j) ≡ refusedFrom read i texts → OneRefused i texts n j
   unfolding refusedFrom
-  one-refused i [] n j e = no-refusal (sym e)
+  one-refused i [] n j e = none-some (sym e)
   one-refused i (t ∷ texts) n j e = at-text i t texts n j (read t) refl (one-refused (suc i) texts n j) e
 
   module _ (bytes ends : List ℕ) (cells : List ℤ) (fit : inOrder (length bytes) 0 ends && leb (length ends) (length cells) ≡ true) where

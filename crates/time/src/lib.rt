@@ -166,14 +166,14 @@ fn fraction_of(s: &[u8], at: usize) -> Fraction
         return Fraction::None;
     }
     let from = at + 1;
-    let digits = clock::parse_nanos(&s[from..]);
-    if digits.digits == 0 {
+    let fraction = clock::parse_nanos(&s[from..]);
+    if fraction.digits == 0 {
         return Fraction::None;
     }
-    if digits.digits < s.len() - from {
+    if fraction.digits < s.len() - from {
         return Fraction::None;
     }
-    Fraction::Of(digits.nanos)
+    Fraction::Of(fraction.nanos)
 }
 
 // The hour of the day: 12 AM is 0, 12 PM is 12.
