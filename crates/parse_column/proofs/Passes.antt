@@ -15,13 +15,8 @@ use Rattle.text.proofs.Bools.{and-left, and-right}
 use Rattle.text.proofs.Logic.{none-some}
 use Rattle.refusal.specs.Outcome.{Outcome, accepted, refused}
 use Rattle.whole_column.specs.Answer.{Whole, all-accepted, first-refused, not-read, inOrder, cut, behind, onText, readAll, whole, stored, cellsAfter}
-use Rattle.whole_column.proofs.Cells.{held}
+use Rattle.whole_column.proofs.Cells.{as-many, held}
 use Rattle.parse_column.specs.Helpers.{orLater, refusedFrom, onValue, storedFrom}
-
-count : (bytes : List ℕ) (from : ℕ) (ends : List ℕ) → length (cut bytes from ends) ≡ length ends
-unfolding cut
-count bytes from [] = refl
-count bytes from (end ∷ ends) = ap suc (count bytes end ends)
 
 -- no end falls or passes the bytes, and there is a cell for each
 pub fitting : (bytes ends : List ℕ) (cells : ℕ) → inOrder (length bytes) 0 ends && leb (length ends) cells ≡ true
@@ -43,7 +38,6 @@ module _ (read : List ℕ → Outcome ℤ) where
   -- no text is refused: each has a value, and it is stored in its cell
   record AllRead (i : ℕ) (texts : List (List ℕ)) : Type 0 where
     values : List ℤ
-    each : length values ≡ length texts
     answer : readAll read texts ≡ all-accepted values
     cells-hold : (cells : List ℤ) → i + length values ≤ length cells → storedFrom read i texts cells ≡ take i cells ++ (values ++ drop (i + length values) cells)
 
@@ -66,7 +60,6 @@ module _ (read : List ℕ → Outcome ℤ) where
   read-one i t texts z e a =
       record {
         values = z ∷ a .values;
-        each = ap suc (a .each);
         answer = rw (e, a .answer) refl;
         cells-hold = λ cells h. rw e (a .cells-hold (set cells i z) (rw (length-set cells i z) (omega (arith, h))) ∙ put-first i z (a .values) cells h);
       }
@@ -82,7 +75,6 @@ module _ (read : List ℕ → Outcome ℤ) where
   all-read i [] e =
       record {
         values = [];
-        each = refl;
         answer = refl;
         cells-hold = λ cells h. sym (rw (add-zero i) (take-append-drop i cells));
       }
@@ -117,8 +109,8 @@ module _ (read : List ℕ → Outcome ℤ) where
         let a = all-read 0 (cut bytes 0 ends) e in
         let w = answers (a .answer) in
         let h = held read bytes ends cells (a .values) w in
-        let n : length (a .values) ≡ length ends = a .each ∙ count bytes 0 ends in
-        let s : after ≡ stored (a .values) cells = q ∙ a .cells-hold cells (omega (arith, n, fitting bytes ends (length cells) fit .1)) ∙ from-first (a .values) cells in
+        let m = as-many read bytes ends cells (a .values) w in
+        let s : after ≡ stored (a .values) cells = q ∙ a .cells-hold cells (omega (arith, m .0, m .1)) ∙ from-first (a .values) cells in
         (ap all-accepted (ap (take (length ends)) s ∙ h .0) ∙ sym w, s ∙ ap (λ (x : Whole). cellsAfter x cells) (sym w))
 
     -- and of texts of which one is refused
