@@ -255,14 +255,17 @@ abs-signed true zero = refl
 abs-signed true (suc m) = refl
 abs-signed false m = refl
 
+-- a number of k digits, at the scale of k digits, is below 10^n
+pub below-scale : (n k : ℕ) {v : ℕ} → k ≤ n → v < 10 ^ k → v * 10 ^ (n - k) < 10 ^ n
+below-scale n k h q =
+    let e : k + (n - k) ≡ n = omega arith in
+    let g : 10 ^ k * 10 ^ (n - k) ≡ 10 ^ n = sym (pow-add 10 k (n - k)) ∙ rw e in
+    omega (arith, g, mul-lt-mul-of-pos-right q (ten-pos (n - k)))
+
 -- a fraction is below 1
 pub scaled-below : (n : ℕ) (f : List ℕ) → digits f ≡ true → length f ≤ n → scaled n f < 10 ^ n
 unfolding scaled
-scaled-below n f D h =
-    let q = value-below f D in
-    let e : length f + (n - length f) ≡ n = omega arith in
-    let g : 10 ^ length f * 10 ^ (n - length f) ≡ 10 ^ n = sym (pow-add 10 (length f) (n - length f)) ∙ rw e in
-    omega (arith, g, mul-lt-mul-of-pos-right q (ten-pos (n - length f)))
+scaled-below n f D h = below-scale n (length f) h (value-below f D)
 
 pub frac-small : {n : ℕ} {a : List ℕ} {v : Value} → Amount n a v → natAbs (v .frac) < 10 ^ n
 frac-small {n} (whole S W) = ten-pos n

@@ -1,17 +1,16 @@
 -- Amounts as the code reads them at a place: digits as a capped number, the whole part with its sign, the fraction. Assumes nothing.
-use mathlib.Core.Path.{_≡_, refl, sym, _∙_}
+use mathlib.Core.Path.{_≡_, refl, sym, ap, _∙_}
 use mathlib.Core.Bool.{Bool, true, false, cond}
 use mathlib.Core.List.{List, [], _∷_}
 use mathlib.Core.Option.{none, some, Option·none-ne-some}
 use Prim.Native.Nat.{ℕ, zero, suc, _+_, _-_, _*_, _^_, _≤_, _<_, min}
-use native.Mathlib.Nat.{add-zero, mul-lt-mul-of-pos-right, le-mul-of-pos-right}
+use native.Mathlib.Nat.{add-zero}
 use native.Mathlib.Numerals.{add-one}
 use native.Mathlib.Omega.{arith}
 use lib.Dec.{eqb, ltb}
-use lib.Pow.{pow-add}
 use lib.IntN.{ℤ, pos, negℤ, _-ℤ_}
 use lib.ListN.{length, getD, take, drop, List·getD-eq-default}
-use lib.Seq.{getD-drop, drop-drop, drop-cons, length-take-le}
+use lib.Seq.{getD-drop, drop-drop, drop-cons}
 use lib.Signed.{mag}
 use mir.Syntax.{w64}
 use mir.Val.{SFits, toZ}
@@ -19,19 +18,19 @@ use mir.Facts.{toZ-ofZ, toZ-pos}
 use borrow.Author.Tests.{eqb-true, eq-eqb, ne-eqb, lt-ltb, le-ltb, ltb-true, ltb-false}
 use Rattle.text.specs.Digits.{worth, digitOf, value, run, within}
 use Rattle.text.proofs.Bools.{by-test, both-ways, within-yes, within-under, within-over}
-use Rattle.text.proofs.Values.{ten-pos, value-below}
 use Rattle.text.proofs.DigitLaws.{is-worth, run-on, run-off, run-end}
 use Rattle.number.specs.Widths.{inSigned, signed, fit}
 use Rattle.number.proofs.Zed.{P-neg, N-neg, sub-ℤ, eq-of, fits-of}
 use Rattle.number.proofs.Ranges.{rd}
 use Rattle.amount.specs.Grammar.{precision, wholeFits, Value, Amount}
 use Rattle.amount.specs.Scan.{negative, signLen, amountLen, amountOf}
-use Rattle.amount.specs.Found.{cap, NumberIs, PointAt}
-use Rattle.amount.specs.Read.{ReadIs}
-use Rattle.amount.specs.declared.parts.Number.{Number}
-use Rattle.amount.proofs.AmountLaws.{run-is, measured, behind, wholeValue, afterDigits, afterPoint, unfit-len, whole-len, point-len, whole-value, point-value}
+use Rattle.amount.specs.Found.{cap, PointAt}
+use Rattle.amount.specs.Read.{valueOf, ReadIs, amountIs}
+use Rattle.amount.specs.declared.AmountRead.{AmountRead}
+use Rattle.amount.specs.declared.AmountRead.the-variants.{Read as ReadAmount, Bad as NoAmount}
+use Rattle.amount.proofs.AmountLaws.{one-value, measured, behind, wholeValue, afterDigits, afterPoint, unfit-len, whole-len, point-len, whole-value, point-value}
 
--- ---- the number of digits, as far as the cap
+-- ---- the number of digits, and as far as the cap
 
 cap-value : (w : List ℕ) (a : ℕ) → min (value (min a cap) w) cap ≡ min (value a w) cap
 unfolding value
@@ -41,37 +40,33 @@ cap-value (b ∷ w) a =
     sym (cap-value w (min a cap * 10 + worth b)) ∙ rw e (cap-value w (a * 10 + worth b))
 
 -- the number v, and the digits from place i on
+abbrev pub valueOn : List ℕ → ℕ → ℕ → ℕ
+valueOn s i v = value v (take (run (drop i s)) (drop i s))
+
 abbrev pub numberOn : List ℕ → ℕ → ℕ → ℕ
-numberOn s i v = min (value v (take (run (drop i s)) (drop i s))) cap
+numberOn s i v = min (valueOn s i v) cap
 
 module _ (s : List ℕ) (i v : ℕ) where
-  no-run : run (drop i s) ≡ 0 → numberOn s i v ≡ min v cap
+  pub value-none : run (drop i s) ≡ 0 → valueOn s i v ≡ v
   unfolding value
-  no-run e = rw e
+  value-none e = rw e
 
   pub number-end : length s ≤ i → numberOn s i v ≡ min v cap
-  number-end h = no-run (run-end s i h)
+  number-end h = rw (value-none (run-end s i h))
 
   -- d is the digit at place i
   module _ {d : ℕ} (h : i < length s) (f : getD s i 0 < 256) (e : d ≡ digitOf (getD s i 0)) where
     pub number-off : 10 ≤ d → numberOn s i v ≡ min v cap
-    number-off g = no-run (run-off s i d h f e g)
+    number-off g = rw (value-none (run-off s i d h f e g))
+
+    pub value-more : d < 10 → valueOn s i v ≡ valueOn s (i + 1) (v * 10 + d)
+    unfolding value
+    value-more g =
+        let l : take (run (drop i s)) (drop i s) ≡ getD s i 0 ∷ take (run (drop (i + 1) s)) (drop (i + 1) s) = rw (run-on s i d h f e g, add-one, drop-cons s i 0 h) in
+        rw (l, is-worth (getD s i 0) d f e g)
 
     pub number-more : d < 10 → numberOn s i v ≡ numberOn s (i + 1) (min (v * 10 + d) cap)
-    unfolding value
-    number-more g =
-        let l : take (run (drop i s)) (drop i s) ≡ getD s i 0 ∷ take (run (drop (i + 1) s)) (drop (i + 1) s) = rw (run-on s i d h f e g, add-one, drop-cons s i 0 h) in
-        rw (l, is-worth (getD s i 0) d f e g) (sym (cap-value (take (run (drop (i + 1) s)) (drop (i + 1) s)) (v * 10 + worth (getD s i 0))))
-
--- p is none of 1 to n
-unfoldable pub NoneUpTo : ℕ → ℕ → Type 0
-NoneUpTo p zero = Unit
-NoneUpTo p (suc n) = NoneUpTo p n × (p ≡ suc n → ⊥)
-
-pub past-all : (p n : ℕ) → NoneUpTo p n → 1 ≤ p → n < p
-unfolding NoneUpTo
-past-all p zero h l = omega arith
-past-all p (suc n) h l = omega (arith, past-all p n (h .0) l, h .1)
+    number-more g = rw (value-more g) (sym (cap-value (take (run (drop (i + 1) s)) (drop (i + 1) s)) (v * 10 + d)))
 
 -- ---- a whole part with its sign
 
@@ -114,6 +109,12 @@ module _ (neg : Bool) (v : ℕ) {m : ℕ} (e : m ≡ min v cap) where
       (λ g. let p : m ≡ v = omega (arith, fits-size neg v g) in both-ways (inSigned 63 (signed neg m)) f (rw p g))
       (λ g. g))
 
+-- ---- a fraction
+
+-- the digits from place p on as a fraction times 10^n
+abbrev pub sizeOn : ℕ → List ℕ → ℕ → ℕ
+sizeOn n s p = valueOn s p 0 * 10 ^ (n - run (drop p s))
+
 -- ---- the amount at a place: its sign ends at from
 
 -- what is measured, k bytes, has the value v that is computed
@@ -121,7 +122,7 @@ read-as : (t : List ℕ) (k : ℕ) {v : Value} → 0 < k → k ≡ amountLen pre
 read-as t k h K e = rw (← e, K) (measured precision t (omega arith))
 
 -- a byte that is not 0 stands in the text
-at-byte : (s : List ℕ) (i : ℕ) → 0 < getD s i 0 → i + 1 ≤ length s
+pub at-byte : (s : List ℕ) (i : ℕ) → 0 < getD s i 0 → i + 1 ≤ length s
 at-byte s i h =
     by-test (ltb i (length s))
     (λ e. omega (arith, ltb-true i (length s) e))
@@ -215,70 +216,38 @@ module _ (s : List ℕ) (at from : ℕ) (neg : Bool) (N : neg ≡ negative (drop
     pointed-len : amountLen precision (drop at s) ≡ cond (within 1 (run (drop p s)) precision) (signLen neg + (run (drop from s) + suc (run (drop p s)))) 0
     pointed-len = point-len precision (drop at s) (fits-here fits (p - 1) next-is) point-here ∙ rw (after-point-is, behind-is, ← N)
 
-    abbrev fv : ℕ
-    fv = value 0 (take (run (drop p s)) (drop p s))
+    -- none, or too many
+    none-behind : run (drop p s) ≡ 0 → amountLen precision (drop at s) ≡ 0
+    none-behind e = pointed-len ∙ rw (within-under 1 (run (drop p s)) precision (omega arith))
 
-    -- the number of at most 15 digits, scaled
-    scaled-below : run (drop p s) ≤ 15 → (fv < 10 ^ precision) × (fv * 10 ^ (precision - run (drop p s)) < 10 ^ precision)
-    scaled-below l =
-        let R = run-is (drop p s) in
-        let k = length-take-le (run (drop p s)) (drop p s) (R .1) in
-        let q : fv < 10 ^ run (drop p s) = rw k at (value-below (take (run (drop p s)) (drop p s)) (R .0)) in
-        let e : run (drop p s) + (precision - run (drop p s)) ≡ precision = omega arith in
-        let f : 10 ^ run (drop p s) * 10 ^ (precision - run (drop p s)) ≡ 10 ^ precision = sym (pow-add 10 (run (drop p s)) (precision - run (drop p s))) ∙ rw e in
-        let u = ten-pos (precision - run (drop p s)) in
-        (omega (arith, f, le-mul-of-pos-right (10 ^ run (drop p s)) u), omega (arith, f, mul-lt-mul-of-pos-right q u))
+    long-behind : precision < run (drop p s) → amountLen precision (drop at s) ≡ 0
+    long-behind e = pointed-len ∙ rw (within-over 1 (run (drop p s)) precision e)
 
-    -- d is the number of the digits, and k what they count
-    module _ (d : Number) (D : NumberIs s p d) where
-      places-is : d .next - p ≡ run (drop p s)
-      places-is = omega (arith, D .next-is)
+    -- or 1 to 15
+    pointed-behind : 0 < run (drop p s) → run (drop p s) ≤ precision → {e : ℕ} → e ≡ p + run (drop p s) → e ≤ length s → {z f : ℤ} → z ≡ signed neg wv → f ≡ signed neg (sizeOn precision s p) → ReadIs precision s at (record { integer = z; frac = f }) e
+    pointed-behind g l {e} E i Z S =
+        let r : amountLen precision (drop at s) ≡ signLen neg + (run (drop from s) + suc (run (drop p s))) = pointed-len ∙ rw (within-yes 1 (run (drop p s)) precision g l) in
+        let j : e - at ≡ signLen (negative (drop at s)) + (run (behind (drop at s)) + suc (run (afterPoint (drop at s)))) = rw (after-point-is, behind-is, ← N) (omega arith) in
+        record {
+          further = omega arith;
+          inside = i;
+          end-is = omega arith;
+          says = read-as (drop at s) (e - at) (omega arith) (omega arith) (rw (j, point-value precision (drop at s) point-here, after-point-is, behind-is, ← N, Z, S));
+        }
 
-      none-behind : d .next - p ≡ 0 → amountLen precision (drop at s) ≡ 0
-      none-behind e = pointed-len ∙ rw (within-under 1 (run (drop p s)) precision (omega (arith, places-is)))
-
-      long-behind : precision < d .next - p → amountLen precision (drop at s) ≡ 0
-      long-behind e = pointed-len ∙ rw (within-over 1 (run (drop p s)) precision (omega (arith, places-is)))
-
-      module _ (l : d .next - p ≤ precision) (k : ℕ) (K : k ≡ 10 ^ (precision - (d .next - p))) where
-        value-uncapped : d .value ≡ fv
-        value-uncapped = omega (arith, D .value-is, scaled-below (omega (arith, places-is)) .0)
-
-        size-is : d .value * k ≡ fv * 10 ^ (precision - run (drop p s))
-        size-is = rw (K, value-uncapped, places-is)
-
-        below-behind : d .value * k < 10 ^ precision
-        below-behind = rw size-is (scaled-below (omega (arith, places-is)) .1)
-
-        pointed-behind : (d .next - p ≡ 0 → ⊥) → {z f : ℤ} → z ≡ signed neg wv → f ≡ signed neg (d .value * k) → ReadIs precision s at (record { integer = z; frac = f }) (d .next)
-        pointed-behind n {z} {f} Z E =
-            let g : 0 < run (drop p s) = omega (arith, places-is, n) in
-            let r : amountLen precision (drop at s) ≡ signLen neg + (run (drop from s) + suc (run (drop p s))) = pointed-len ∙ rw (within-yes 1 (run (drop p s)) precision g (omega (arith, places-is))) in
-            let j : d .next - at ≡ signLen (negative (drop at s)) + (run (behind (drop at s)) + suc (run (afterPoint (drop at s)))) = rw (after-point-is, behind-is, ← N) (omega (arith, D .next-is)) in
-            record {
-              further = omega (arith, D .next-is);
-              inside = D .inside;
-              end-is = omega (arith, D .next-is);
-              says = read-as (drop at s) (d .next - at) (omega (arith, D .next-is)) (omega (arith, D .next-is)) (rw (j, point-value precision (drop at s) point-here, after-point-is, behind-is, ← N, Z, E, size-is));
-            }
-
--- the same of a text that is read up to a point, where d is the number of the digits behind it
-module _ {s : List ℕ} {at p : ℕ} {neg : Bool} {z : ℤ} (Q : PointAt s at p neg z) (d : Number) (D : NumberIs s p d) where
+-- the same of a text that is read up to a point
+module _ {s : List ℕ} {at p : ℕ} {neg : Bool} {z : ℤ} (Q : PointAt s at p neg z) where
   place-is : p ≡ at + signLen neg + (run (drop (at + signLen neg) s) + 1)
   place-is = omega (arith, Q .place)
 
-  pub no-fraction : d .next - p ≡ 0 → amountLen precision (drop at s) ≡ 0
-  no-fraction = none-behind s at (at + signLen neg) neg (Q .sign-is) refl (Q .fitting) p place-is (Q .point) d D
+  pub no-fraction : run (drop p s) ≡ 0 → amountLen precision (drop at s) ≡ 0
+  no-fraction = none-behind s at (at + signLen neg) neg (Q .sign-is) refl (Q .fitting) p place-is (Q .point)
 
-  pub long-fraction : precision < d .next - p → amountLen precision (drop at s) ≡ 0
-  long-fraction = long-behind s at (at + signLen neg) neg (Q .sign-is) refl (Q .fitting) p place-is (Q .point) d D
+  pub long-fraction : precision < run (drop p s) → amountLen precision (drop at s) ≡ 0
+  long-fraction = long-behind s at (at + signLen neg) neg (Q .sign-is) refl (Q .fitting) p place-is (Q .point)
 
-  module _ (l : d .next - p ≤ precision) {k : ℕ} (K : k ≡ 10 ^ (precision - (d .next - p))) where
-    pub size-below : d .value * k < 10 ^ precision
-    size-below = below-behind s at (at + signLen neg) neg (Q .sign-is) refl (Q .fitting) p place-is (Q .point) d D l k K
-
-    pub pointed : (d .next - p ≡ 0 → ⊥) → {y f : ℤ} → y ≡ z → f ≡ signed neg (d .value * k) → ReadIs precision s at (record { integer = y; frac = f }) (d .next)
-    pointed n e f = pointed-behind s at (at + signLen neg) neg (Q .sign-is) refl (Q .fitting) p place-is (Q .point) d D l k K n (e ∙ Q .integer-is) f
+  pub pointed : 0 < run (drop p s) → run (drop p s) ≤ precision → {e : ℕ} → e ≡ p + run (drop p s) → e ≤ length s → {y f : ℤ} → y ≡ z → f ≡ signed neg (sizeOn precision s p) → ReadIs precision s at (record { integer = y; frac = f }) e
+  pointed g l E i Y S = pointed-behind s at (at + signLen neg) neg (Q .sign-is) refl (Q .fitting) p place-is (Q .point) g l E i (Y ∙ Q .integer-is) S
 
 -- ---- a size with its sign, as the machine has it
 
@@ -303,3 +272,17 @@ module _ (m : ℕ) (h : m < 2 ^ 63) where
 
   pub size-minus : rd w64 (pos 0 -ℤ toZ w64 m) ≡ signed true m
   size-minus = rw (plain, negated, toZ-ofZ minus-fits)
+
+-- ---- the contract of `amount_at` leaves nothing free: two programs that meet it give the same answer for every text and place
+
+pub one-answer : (n : ℕ) (s : List ℕ) (at : ℕ) (r q : AmountRead) → amountIs n s at r → amountIs n s at q → r ≡ q
+unfolding amountIs
+one-answer n s at (ReadAmount a e) (ReadAmount b f) R Q =
+    let k : e ≡ f = R .end-is ∙ sym (Q .end-is) in
+    let v : valueOf a ≡ valueOf b = one-value (R .says) (rw (← k) at (Q .says)) in
+    let i : a .integer ≡ b .integer = ap (λ (x : Value). x .integer) v in
+    let j : a .frac ≡ b .frac = ap (λ (x : Value). x .frac) v in
+    rw (k, i, j)
+one-answer n s at (ReadAmount a e) NoAmount R Q = absurd (omega (arith, R .further, R .end-is))
+one-answer n s at NoAmount (ReadAmount b f) R Q = absurd (omega (arith, Q .further, Q .end-is))
+one-answer n s at NoAmount NoAmount R Q = refl

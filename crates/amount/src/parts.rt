@@ -3,7 +3,7 @@ use crate::AmountRead;
 use crate::IntervalAmount;
 use number::Int64;
 ghost use mathlib.Core.Path.{_≡_};
-ghost use Prim.Native.Nat.{_+_, _-_, _*_, _^_, _≤_, _<_, min};
+ghost use Prim.Native.Nat.{_+_, _*_, _≤_, _<_, min};
 ghost use lib.ListN.{length, drop};
 ghost use Rattle.amount.specs.Grammar.{precision};
 ghost use Rattle.amount.specs.Scan.{negative, signLen};
@@ -46,62 +46,31 @@ pub fn number_at(text: &[u8], from: usize) -> Number
     Number { value, next: i }
 }
 
-// What a fraction's digits count: ten to the places that are left.
-pub fn scale(places: usize) -> u64
-    requires { ⌜ (1 ≤ places) × (places ≤ precision) ⌝ }
-    ensures { λ r. ⌜ r ≡ 10 ^ (precision - places) ⌝ }
-{
-    match places {
-        1 => 100_000_000_000_000,
-        2 => 10_000_000_000_000,
-        3 => 1_000_000_000_000,
-        4 => 100_000_000_000,
-        5 => 10_000_000_000,
-        6 => 1_000_000_000,
-        7 => 100_000_000,
-        8 => 10_000_000,
-        9 => 1_000_000,
-        10 => 100_000,
-        11 => 10_000,
-        12 => 1_000,
-        13 => 100,
-        14 => 10,
-        _ => 1,
-    }
-}
-
 // The amount at a place, where its point ends at `from`: one to fifteen digits, which carry the sign of the whole part.
+// After each digit the scale is a tenth of what it was: ten to the places that are left.
 pub fn fraction_at(text: &[u8], at: usize, from: usize, neg: bool, integer: i64) -> AmountRead
     requires { ⌜ PointAt (now text) at from neg integer ⌝ }
     ensures { λ r. ⌜ amountIs precision (now (text .entry)) at r ⌝ }
 {
-    let digits = number_at(text, from);
-    let value = digits.value;
-    let next = digits.next;
-    let places = next - from;
-    if places == 0 {
+    let mut value: u64 = 0;
+    let mut scale: u64 = 1_000_000_000_000_000;
+    let mut next = from;
+    let mut d = text::digits::digit(text::byte_at(text, next));
+    while d < 10 {
+        if scale == 1 {
+            return AmountRead::Bad;
+        }
+        value = value * 10 + d as u64;
+        scale = scale / 10;
+        next += 1;
+        d = text::digits::digit(text::byte_at(text, next));
+    }
+    if next == from {
         return AmountRead::Bad;
     }
-    if 15 < places {
-        return AmountRead::Bad;
-    }
-    let size = (value * scale(places)) as i64;
-    if neg {
-        return AmountRead::Read(
-            IntervalAmount {
-                integer,
-                frac: 0 - size,
-            },
-            next,
-        );
-    }
-    AmountRead::Read(
-        IntervalAmount {
-            integer,
-            frac: size,
-        },
-        next,
-    )
+    let size = (value * scale) as i64;
+    let frac = if neg { 0 - size } else { size };
+    AmountRead::Read(IntervalAmount { integer, frac }, next)
 }
 
 // The amount at a place, where its sign ends at `from`: digits, then perhaps a point.
