@@ -255,9 +255,9 @@ abs-signed true zero = refl
 abs-signed true (suc m) = refl
 abs-signed false m = refl
 
--- a number of k digits, at the scale of k digits, is below 10^n
-pub below-scale : (n k : ℕ) {v : ℕ} → k ≤ n → v < 10 ^ k → v * 10 ^ (n - k) < 10 ^ n
-below-scale n k h q =
+-- a number below 10^k, at the scale of k digits, is below 10^n
+pub shifted-below : (n k : ℕ) {v : ℕ} → k ≤ n → v < 10 ^ k → v * 10 ^ (n - k) < 10 ^ n
+shifted-below n k h q =
     let e : k + (n - k) ≡ n = omega arith in
     let g : 10 ^ k * 10 ^ (n - k) ≡ 10 ^ n = sym (pow-add 10 k (n - k)) ∙ rw e in
     omega (arith, g, mul-lt-mul-of-pos-right q (ten-pos (n - k)))
@@ -265,7 +265,7 @@ below-scale n k h q =
 -- a fraction is below 1
 pub scaled-below : (n : ℕ) (f : List ℕ) → digits f ≡ true → length f ≤ n → scaled n f < 10 ^ n
 unfolding scaled
-scaled-below n f D h = below-scale n (length f) h (value-below f D)
+scaled-below n f D h = shifted-below n (length f) h (value-below f D)
 
 pub frac-small : {n : ℕ} {a : List ℕ} {v : Value} → Amount n a v → natAbs (v .frac) < 10 ^ n
 frac-small {n} (whole S W) = ten-pos n

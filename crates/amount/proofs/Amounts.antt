@@ -122,7 +122,7 @@ read-as : (t : List ℕ) (k : ℕ) {v : Value} → 0 < k → k ≡ amountLen pre
 read-as t k h K e = rw (← e, K) (measured precision t (omega arith))
 
 -- a byte that is not 0 stands in the text
-pub at-byte : (s : List ℕ) (i : ℕ) → 0 < getD s i 0 → i + 1 ≤ length s
+at-byte : (s : List ℕ) (i : ℕ) → 0 < getD s i 0 → i + 1 ≤ length s
 at-byte s i h =
     by-test (ltb i (length s))
     (λ e. omega (arith, ltb-true i (length s) e))

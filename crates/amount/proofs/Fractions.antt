@@ -2,24 +2,24 @@
 -- nothing.
 use mathlib.Core.Path.{_≡_, refl, sym, _∙_}
 use mathlib.Core.Bool.{Bool}
-use mathlib.Core.List.{List}
+use mathlib.Core.List.{List, []}
 use Prim.Native.Nat.{ℕ, zero, suc, _+_, _-_, _*_, _/_, _^_, _≤_, _<_}
-use native.Mathlib.Nat.{pow-zero, pow-succ', le-mul-of-pos-right}
+use native.Mathlib.Nat.{add-zero, sub-zero, sub-self, pow-zero, pow-succ', pow-le-pow-right}
 use native.Mathlib.Omega.{arith}
-use lib.Dec.{ltb}
 use lib.IntN.{ℤ}
 use lib.ListN.{length, getD, drop}
-use borrow.Author.Tests.{ltb-true, ltb-false}
-use Rattle.text.specs.Digits.{digitOf, run}
-use Rattle.text.proofs.Bools.{by-test}
+use lib.Seq.{getD-drop}
+use Rattle.text.specs.Digits.{digitOf, digits, run}
 use Rattle.text.proofs.Values.{ten-pos}
-use Rattle.text.proofs.DigitLaws.{run-on, run-off, run-end}
+use Rattle.text.proofs.DigitLaws.{is-digit, no-digit, run-on}
+use Rattle.text.proofs.Places.{inside as within-text}
+use Rattle.text.proofs.Runs.{run-all}
 use Rattle.number.specs.Widths.{signed}
 use Rattle.amount.specs.Grammar.{precision}
 use Rattle.amount.specs.Found.{PointAt}
 use Rattle.amount.specs.Read.{ReadIs}
-use Rattle.amount.proofs.AmountLaws.{below-scale}
-use Rattle.amount.proofs.Amounts.{valueOn, value-none, value-more, sizeOn, at-byte, pointed}
+use Rattle.amount.proofs.AmountLaws.{shifted-below}
+use Rattle.amount.proofs.Amounts.{valueOn, value-none, value-more, sizeOn, pointed}
 
 -- ---- the running scale
 
@@ -34,23 +34,18 @@ scale-next n k h = let e : n - k ≡ suc (n - suc k) = omega arith in rw e (omeg
 -- after k digits, k from 0 to n, the scale is ten to the power n less k
 pub scale-after : (n k : ℕ) → k ≤ n → scaleAfter n k ≡ 10 ^ (n - k)
 unfolding scaleAfter
-scale-after n zero h = let e : n - 0 ≡ n = omega arith in rw e
+scale-after n zero h = rw (sub-zero n)
 scale-after n (suc k) h = rw (scale-after n k (omega arith)) (scale-next n k (omega arith))
 
--- it is 1 exactly where no place is left
-scale-full : (n k : ℕ) → k ≤ n → 10 ^ (n - k) ≡ 1 → k ≡ n
-scale-full n k h e = from (n - k) refl e
-  where
-    from : (m : ℕ) → n - k ≡ m → 10 ^ m ≡ 1 → k ≡ n
-    from zero q f = omega arith
-    from (suc m) q f = absurd (omega (arith, pow-succ' 10 m, ten-pos m))
+-- ten to the power m is 1 exactly where m is 0
 
-scale-free : (n k : ℕ) → k ≤ n → (10 ^ (n - k) ≡ 1 → ⊥) → k < n
-scale-free n k h f = from (n - k) refl f
-  where
-    from : (m : ℕ) → n - k ≡ m → (10 ^ m ≡ 1 → ⊥) → k < n
-    from zero q g = absurd (g (pow-zero 10))
-    from (suc m) q g = omega arith
+power-one : (m : ℕ) → 10 ^ m ≡ 1 → m ≡ 0
+power-one zero e = refl
+power-one (suc m) e = absurd (omega (arith, pow-succ' 10 m, ten-pos m))
+
+power-more : (m : ℕ) → (10 ^ m ≡ 1 → ⊥) → 0 < m
+power-more zero f = absurd (f (pow-zero 10))
+power-more (suc m) f = omega arith
 
 -- ---- the digits so far
 
@@ -67,38 +62,40 @@ pub record Reading (n : ℕ) (s : List ℕ) (p v scale i d : ℕ) : Type 0 where
 
 pub reading-first : (n : ℕ) (s : List ℕ) (p : ℕ) → p ≤ length s → {d : ℕ} → d ≡ digitOf (getD s p 0) → Reading n s p 0 (10 ^ n) p d
 reading-first n s p h e =
-    let z : p - p ≡ 0 = omega arith in
-    let y : n - 0 ≡ n = omega arith in
     record {
       further = omega arith;
       inside = h;
       most = omega arith;
-      scale-is = rw (z, y);
-      small = rw (z, pow-zero 10) (omega arith);
+      scale-is = rw (sub-self p, sub-zero n);
+      small = rw (sub-self p, pow-zero 10) (omega arith);
       value-is = refl;
       run-is = refl;
       digit-is = e;
     }
 
 module _ {n : ℕ} {s : List ℕ} {p v scale i d : ℕ} (R : Reading n s p v scale i d) where
-  pub size-below : v * scale < 10 ^ n
-  size-below = rw (R .scale-is) (below-scale n (i - p) (R .most) (R .small))
+  -- the scale that the loop keeps is the running one
+  pub running : scale ≡ scaleAfter n (i - p)
+  running = R .scale-is ∙ sym (scale-after n (i - p) (R .most))
 
-  pub value-below : v < 10 ^ n
-  value-below = omega (arith, size-below, le-mul-of-pos-right {m = scale} v (rw (R .scale-is) (ten-pos (n - (i - p)))))
+  pub size-below : v * scale < 10 ^ n
+  size-below = rw (R .scale-is) (shifted-below n (i - p) (R .most) (R .small))
+
+  pub number-below : v < 10 ^ n
+  number-below = omega (arith, R .small, pow-le-pow-right {n = 10} (omega arith) (R .most))
 
   -- no place is left, or one is
   full : scale ≡ 1 → i - p ≡ n
-  full e = scale-full n (i - p) (R .most) (sym (R .scale-is) ∙ e)
+  full e = omega (arith, power-one (n - (i - p)) (sym (R .scale-is) ∙ e), R .most)
 
   pub free : (scale ≡ 1 → ⊥) → i - p < n
-  free e = scale-free n (i - p) (R .most) (λ q. e (R .scale-is ∙ q))
+  free e = omega (arith, power-more (n - (i - p)) (λ q. e (R .scale-is ∙ q)))
 
   module _ (f : getD s i 0 < 256) where
     -- a digit stands there
 
     stands : d < 10 → i < length s
-    stands g = omega (arith, at-byte s i (omega (arith, R .digit-is)))
+    stands g = within-text s i (is-digit (getD s i 0) d f (R .digit-is) g)
 
     run-more : d < 10 → run (drop i s) ≡ suc (run (drop (i + 1) s))
     run-more g = run-on s i d (stands g) f (R .digit-is) g
@@ -123,10 +120,8 @@ module _ {n : ℕ} {s : List ℕ} {p v scale i d : ℕ} (R : Reading n s p v sca
     -- none does: all are read
 
     run-none : 10 ≤ d → run (drop i s) ≡ 0
-    run-none g =
-        by-test (ltb i (length s))
-        (λ t. run-off s i d (ltb-true i (length s) t) f (R .digit-is) g)
-        (λ t. run-end s i (ltb-false i (length s) t))
+    unfolding digits
+    run-none g = run-all [] (drop i s) refl (rw (getD-drop i s 0 0, add-zero) (no-digit (getD s i 0) d f (R .digit-is) g))
 
     pub end-is : 10 ≤ d → i ≡ p + run (drop p s)
     end-is g = omega (arith, run-none g, R .run-is)

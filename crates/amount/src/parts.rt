@@ -61,7 +61,7 @@ pub fn fraction_at(text: &[u8], at: usize, from: usize, neg: bool, integer: i64)
             return AmountRead::Bad;
         }
         value = value * 10 + d as u64;
-        scale = scale / 10;
+        scale /= 10;
         next += 1;
         d = text::digits::digit(text::byte_at(text, next));
     }

@@ -7,7 +7,7 @@ use mir.Facts.{toZ-ofZ}
 use Rattle.amount.specs.Grammar.{precision}
 use Rattle.amount.specs.Read.{amountIs}
 use Rattle.amount.proofs.Amounts.{no-fraction, long-fraction, size-cast, size-flips, size-minus, size-plus}
-use Rattle.amount.proofs.Fractions.{Reading, reading-first, reading-next, size-below, value-below, free, too-many, end-is, fraction-read}
+use Rattle.amount.proofs.Fractions.{Reading, reading-first, reading-next, size-below, number-below, free, too-many, end-is, fraction-read}
 use Rattle.amount.proofs.parts.fraction_at.Statement.{statement}
 use Rattle.amount.proofs.parts.fraction_at.Tie as tie
 
@@ -39,7 +39,7 @@ returns c =
 mul-value : tie.Need-mul-value Inv-loop μ-loop
 mul-value c =
     let l = c .before .before in
-    let v = value-below (l .loop .inv) in
+    let v = number-below (l .loop .inv) in
     record { fits = omega arith }
 
 cast-value : tie.Need-cast-value Inv-loop μ-loop
@@ -48,7 +48,7 @@ cast-value c = search needs
 add-value : tie.Need-add-value Inv-loop μ-loop
 add-value c =
     let l = c .before .before in
-    let v = value-below (l .loop .inv) in
+    let v = number-below (l .loop .inv) in
     record { fits = omega arith }
 
 add-next : tie.Need-add-next Inv-loop μ-loop
