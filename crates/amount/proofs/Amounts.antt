@@ -283,6 +283,6 @@ one-answer n s at (ReadAmount a e) (ReadAmount b f) R Q =
     let i : a .integer ≡ b .integer = ap (λ (x : Value). x .integer) v in
     let j : a .frac ≡ b .frac = ap (λ (x : Value). x .frac) v in
     rw (k, i, j)
-one-answer n s at (ReadAmount a e) NoAmount R Q = absurd (omega (arith, R .further, R .end-is))
-one-answer n s at NoAmount (ReadAmount b f) R Q = absurd (omega (arith, Q .further, Q .end-is))
-one-answer n s at NoAmount NoAmount R Q = refl
+one-answer n s at (ReadAmount a e) (NoAmount q) R Q = absurd (omega (arith, R .further, R .end-is))
+one-answer n s at (NoAmount p) (ReadAmount b f) R Q = absurd (omega (arith, Q .further, Q .end-is))
+one-answer n s at (NoAmount p) (NoAmount q) R Q = rw (R .1, Q .1)

@@ -32,7 +32,7 @@ pub record ReadIs (n : ℕ) (s : List ℕ) (at : ℕ) (a : IntervalAmount) (end 
   pub end-is : end ≡ at + amountLen n (drop at s)
   pub says : Amount n (take (end - at) (drop at s)) (valueOf a)
 
--- what stands at a place: an amount, or none
+-- what stands at a place: an amount; or none, and then that place is told
 unfoldable pub amountIs : ℕ → List ℕ → ℕ → AmountRead → Type 0
 amountIs n s at (ReadAmount a end) = ReadIs n s at a end
-amountIs n s at NoAmount = amountLen n (drop at s) ≡ 0
+amountIs n s at (NoAmount p) = (amountLen n (drop at s) ≡ 0) × (p ≡ at)

@@ -10,10 +10,10 @@ pub struct IntervalAmount {
     pub frac: i64,
 }
 
-// The amount at a place, and where it ends; or none.
+// The amount at a place, and where it ends; or none, and that place.
 pub enum AmountRead {
     Read(IntervalAmount, usize),
-    Bad,
+    Bad(usize),
 }
 
 // The amount at a place: a minus is a sign, a plus is none; past the text's end there is none.
@@ -21,7 +21,7 @@ pub fn amount_at(text: &[u8], at: usize) -> AmountRead
     ensures { λ r. ⌜ amountIs precision (now (text .entry)) at r ⌝ }
 {
     if text.len() < at {
-        return AmountRead::Bad;
+        return AmountRead::Bad(at);
     }
     let neg = text::byte_at(text, at) == b'-';
     let from = if neg { at + 1 } else { at };

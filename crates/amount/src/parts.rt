@@ -58,7 +58,7 @@ pub fn fraction_at(text: &[u8], at: usize, from: usize, neg: bool, integer: i64)
     let mut d = text::digits::digit(text::byte_at(text, next));
     while d < 10 {
         if scale == 1 {
-            return AmountRead::Bad;
+            return AmountRead::Bad(at);
         }
         value = value * 10 + d as u64;
         scale /= 10;
@@ -66,7 +66,7 @@ pub fn fraction_at(text: &[u8], at: usize, from: usize, neg: bool, integer: i64)
         d = text::digits::digit(text::byte_at(text, next));
     }
     if next == from {
-        return AmountRead::Bad;
+        return AmountRead::Bad(at);
     }
     let size = (value * scale) as i64;
     let frac = if neg { 0 - size } else { size };
@@ -87,10 +87,10 @@ pub fn unsigned_at(text: &[u8], at: usize, from: usize, neg: bool) -> AmountRead
                 return fraction_at(text, at, next + 1, neg, integer);
             }
             if next == from {
-                return AmountRead::Bad;
+                return AmountRead::Bad(at);
             }
             AmountRead::Read(IntervalAmount { integer, frac: 0 }, next)
         }
-        Int64::None => AmountRead::Bad,
+        Int64::None => AmountRead::Bad(at),
     }
 }

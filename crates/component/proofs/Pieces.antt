@@ -1,12 +1,15 @@
 -- A component as the code finds it at a place: an amount, and behind it its unit word, or nothing. Assumes nothing.
 use mathlib.Core.Path.{_≡_, refl}
-use mathlib.Core.Bool.{Bool, false, not}
+use mathlib.Core.Bool.{Bool, false, not, cond}
 use mathlib.Core.List.{List}
 use mathlib.Core.Option.{none, some}
 use Prim.Native.Nat.{ℕ, _+_, _-_, _≤_, _<_}
+use native.Mathlib.Nat.{add-zero}
 use native.Mathlib.Omega.{arith}
 use lib.Dec.{eqb}
-use lib.ListN.{length, take, drop}
+use lib.ListN.{length, getD, take, drop}
+use lib.Seq.{getD-drop, drop-drop}
+use Rattle.text.proofs.Bools.{by-test}
 use Rattle.white.specs.WhiteSpace.{whiteLen}
 use Rattle.unit.specs.Units.{unitOf, orElse, wordLen}
 use Rattle.unit.specs.Read.{wordEnd, wordOf, Followed}
@@ -17,11 +20,14 @@ use Rattle.amount.specs.Grammar.{precision}
 use Rattle.component.specs.Grammar.{component}
 use Rattle.component.specs.Division.{step, bad}
 use Rattle.component.specs.Spelled.{spelled, unitFor}
+use Rattle.component.specs.Fault.{inAmount, fault}
 use Rattle.component.specs.Read.{Holds, LastIs, MoreIs}
 use Rattle.amount.specs.Read.{ReadIs}
+use Rattle.amount.specs.Scan.{amountLen}
 use Rattle.amount.specs.declared.IntervalAmount.{IntervalAmount}
 use Rattle.amount.proofs.AmountLaws.{same-sign, frac-small}
 use Rattle.component.proofs.Steps.{amount-last, word-bad, unit-last, unit-more}
+use Rattle.component.proofs.Faults.{overmeasured, fault-first, fault-unit}
 
 -- the unit of a component with an amount a, spaced or not: the default u where there is no word, else what the word w spells
 
@@ -55,6 +61,16 @@ module _ (s : List ℕ) (at : ℕ) (a : IntervalAmount) (e : ℕ) (R : ReadIs pr
     pub no-unit-here : unitOf (wordOf s f) ≡ none → step precision (drop at s) ≡ bad
     no-unit-here h =
         word-bad precision s at e (R .end-is) (R .further) w f (wordEnd s f) l W F ends-there (spells-none (take (wordEnd s f - f) (drop f s)) (word-here s f h))
+
+    -- and then the amount piece goes on behind the amount, or the word is the piece that is none
+    pub no-unit-place : cond (inAmount (getD s e 0)) at f ≡ at + fault precision (drop at s)
+    no-unit-place =
+        let E = R .end-is in
+        let d : drop (amountLen precision (drop at s)) (drop at s) ≡ drop e s = rw E (drop-drop (amountLen precision (drop at s)) at s) in
+        let b : getD (drop (amountLen precision (drop at s)) (drop at s)) 0 0 ≡ getD s e 0 = rw (d, getD-drop e s 0 0, add-zero) in
+        by-test (inAmount (getD s e 0))
+        (λ h. rw h (omega (arith, fault-first precision (drop at s) (overmeasured precision (drop at s) (rw b h)))))
+        (λ h. rw h (omega (arith, W, F, rw d at (fault-unit precision (drop at s) (omega (arith, R .further)) (rw b h)))))
 
     -- the word spells the unit u
     module _ {u : IntervalUnit} (U : unitOf (wordOf s f) ≡ some u) where

@@ -3,7 +3,7 @@
 use mathlib.Core.Path.{_≡_}
 use mathlib.Core.List.{List}
 use mathlib.Core.Option.{Option, some}
-use Prim.Native.Nat.{ℕ, _-_, _^_, _≤_, _<_}
+use Prim.Native.Nat.{ℕ, _+_, _-_, _^_, _≤_, _<_}
 use lib.IntN.{natAbs}
 use lib.ListN.{length, drop}
 use Rattle.unit.specs.Units.{orElse}
@@ -11,6 +11,7 @@ use Rattle.unit.specs.Read.{unitRead}
 use Rattle.component.specs.Grammar.{Component}
 use Rattle.component.specs.Division.{bad, stop, go, step}
 use Rattle.component.specs.Spelled.{unitFor}
+use Rattle.component.specs.Fault.{fault}
 use Rattle.amount.specs.Grammar.{Amount}
 use Rattle.amount.specs.Read.{valueOf, SameSign}
 use Rattle.amount.specs.declared.IntervalAmount.{IntervalAmount}
@@ -40,15 +41,15 @@ pub record MoreIs (n : ℕ) (s : List ℕ) (at : ℕ) (a : IntervalAmount) (u : 
   pub inside : x ≤ length s
   pub holds : Holds n this a (some u)
 
--- what stands at a place: no component, a last one, or one more
+-- what stands at a place: no component, and where it cannot be read; a last one; or one more
 unfoldable pub pieceIs : ℕ → List ℕ → ℕ → Piece → Type 0
-pieceIs n s at Bad = step n (drop at s) ≡ bad
+pieceIs n s at (Bad p) = (step n (drop at s) ≡ bad) × (p ≡ at + fault n (drop at s))
 pieceIs n s at (Last a w) = LastIs n s at a (unitRead w)
 pieceIs n s at (More a u x) = MoreIs n s at a u x
 
 -- where a reader goes on from a place: it stays where there is no component, a last one ends the text, else behind the white space
 unfoldable pub placeAfter : List ℕ → ℕ → Piece → ℕ
-placeAfter s at Bad = at
+placeAfter s at (Bad p) = at
 placeAfter s at (Last a w) = length s
 placeAfter s at (More a u x) = x
 

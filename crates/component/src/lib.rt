@@ -8,10 +8,11 @@ ghost use Rattle.component.specs.Read.{takenIs};
 mod reader;
 mod split;
 
-// The component at a place: none, one that ends the text, or one with its unit and the place behind the white space that follows.
+// The component at a place: none, and where its amount or its unit cannot be read; one that ends the text; or one with its unit and the
+// place behind the white space that follows.
 // No unit stands for the default.
 pub enum Piece {
-    Bad,
+    Bad(usize),
     Last(IntervalAmount, UnitRead),
     More(IntervalAmount, IntervalUnit, usize),
 }
@@ -28,7 +29,7 @@ pub fn component(text: &[u8], at: usize) -> Taken
 {
     if text.len() < at {
         return Taken {
-            piece: Piece::Bad,
+            piece: Piece::Bad(at),
             at,
         };
     }

@@ -32,8 +32,8 @@ pub record Followed (s : List ℕ) (at : ℕ) (u : IntervalUnit) (next : ℕ) : 
   pub further : wordEnd s at < next
   pub inside : next ≤ length s
 
--- the word from a place on: it spells no unit, or one with which the text ends, or one that white space follows
+-- the word from a place on: it spells no unit, and then that place is told; or one with which the text ends, or one that white space follows
 unfoldable pub wordIs : List ℕ → ℕ → WordRead → Type 0
-wordIs s at NoWord = unitOf (wordOf s at) ≡ none
+wordIs s at (NoWord p) = (unitOf (wordOf s at) ≡ none) × (p ≡ at)
 wordIs s at (LastWord u) = (unitOf (wordOf s at) ≡ some u) × (length s ≤ wordEnd s at)
 wordIs s at (MoreWord u next) = Followed s at u next

@@ -29,9 +29,9 @@ pub enum UnitRead {
     None,
 }
 
-// The unit word at a place: none, one that ends the text, or one and the place behind the white space that follows.
+// The unit word at a place: none, and that place; one that ends the text; or one and the place behind the white space that follows.
 pub enum WordRead {
-    None,
+    None(usize),
     Last(IntervalUnit),
     More(IntervalUnit, usize),
 }

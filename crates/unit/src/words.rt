@@ -39,20 +39,20 @@ pub fn word_at(text: &[u8], at: usize) -> WordRead
     ensures { λ r. ⌜ wordIs (now (text .entry)) at r ⌝ }
 {
     if text.len() <= at {
-        return WordRead::None;
+        return WordRead::None(at);
     }
     let letters = letters::letters_at(text, at);
     let key = letters.key;
     let end = letters.end;
     let UnitRead::Unit(unit) = letters::unit_of_key(key) else {
-        return WordRead::None;
+        return WordRead::None(at);
     };
     if text.len() <= end {
         return WordRead::Last(unit);
     }
     let white = white_len(text, end);
     if white == 0 {
-        return WordRead::None;
+        return WordRead::None(at);
     }
     WordRead::More(unit, end + white)
 }

@@ -1,5 +1,6 @@
 -- `amount::amount_at` meets its contract, by the laws of a sign; nothing stands past the end. Assumes nothing.
 use borrow.Author.Needs.{needs}
+use mathlib.Core.Path.{refl}
 use mathlib.Core.Logic.{⊎-elim}
 use native.Mathlib.Omega.{arith}
 use Rattle.amount.specs.Grammar.{precision}
@@ -13,7 +14,7 @@ returns : tie.Need-returns
 unfolding amountIs
 returns c =
     let x = c .before .before .args in
-    past-text precision (x .text .now) (x .at) (omega (arith, c .if1 .taken))
+    (past-text precision (x .text .now) (x .at) (omega (arith, c .if1 .taken)), refl)
 
 byte-at-requires : tie.Need-byte-at-requires
 byte-at-requires c κs = search needs

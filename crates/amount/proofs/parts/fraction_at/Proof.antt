@@ -1,6 +1,7 @@
 -- `amount::parts::fraction_at` meets its contract. The loop's invariant, over the limit of 15 digits: after k digits the scale is ten to
 -- the power 15 less k, and the number of those read goes on to that of all. The measure is the places that are left. Assumes nothing.
 use borrow.Author.Needs.{needs}
+use mathlib.Core.Path.{refl}
 use Prim.Native.Nat.{_*_, _-_}
 use native.Mathlib.Omega.{arith}
 use mir.Facts.{toZ-ofZ}
@@ -34,7 +35,7 @@ unfolding amountIs
 returns c =
     let l = c .before .before in
     let x = l .before .before .before .before in
-    long-fraction (x .pre) (too-many (l .loop .inv) (l .before .before .before .shared-slice-known .given (l .loop .next) .fits) (c .before .loop-test .taken) (c .if1 .taken))
+    (long-fraction (x .pre) (too-many (l .loop .inv) (l .before .before .before .shared-slice-known .given (l .loop .next) .fits) (c .before .loop-test .taken) (c .if1 .taken)), refl)
 
 mul-value : tie.Need-mul-value Inv-loop μ-loop
 mul-value c =
@@ -78,7 +79,7 @@ returns-2 c =
     let l = c .before .before in
     let x = l .before .before .before .before in
     let e = end-is (l .loop .inv) (l .before .before .before .shared-slice-known .given (l .loop .next) .fits) (c .before .loop-test .left) in
-    no-fraction (x .pre) (omega arith)
+    (no-fraction (x .pre) (omega arith), refl)
 
 mul-size : tie.Need-mul-size Inv-loop μ-loop
 mul-size c =

@@ -1,6 +1,6 @@
 -- `amount::parts::unsigned_at` meets its contract, by the laws of a whole part with its sign. Assumes nothing.
 use borrow.Author.Needs.{needs}
-use mathlib.Core.Path.{sym, ap, _∙_}
+use mathlib.Core.Path.{refl, sym, ap, _∙_}
 use lib.ListN.{take, drop}
 use Rattle.text.specs.Digits.{value, run}
 use Rattle.number.specs.Widths.{int64}
@@ -46,7 +46,7 @@ returns-2 c =
     let x = n .before .before .args in
     let p = n .before .before .pre in
     let W = whole-fits (x .neg) (value 0 (take (run (drop (x .from) (x .text .now))) (drop (x .from) (x .text .now)))) (n .number-at .ensures .value-is) (sym (ap int64 (q .integer .given .1)) ∙ g .signed-i64 .ensures) in
-    no-amount (x .text .now) (x .at) (x .from) (x .neg) (p .0) (p .1) (W .1) (n .number-at .result .next) (n .number-at .ensures .next-is) (λ e. c .before .if1 .left (c .before .before .byte-at .ensures ∙ e)) (c .if2 .taken)
+    (no-amount (x .text .now) (x .at) (x .from) (x .neg) (p .0) (p .1) (W .1) (n .number-at .result .next) (n .number-at .ensures .next-is) (λ e. c .before .if1 .left (c .before .before .byte-at .ensures ∙ e)) (c .if2 .taken), refl)
 
 enum-told : tie.Need-enum-told
 enum-told c = search needs
@@ -69,7 +69,7 @@ returns-4 c =
     let n = g .before in
     let x = n .before .before .args in
     let p = n .before .before .pre in
-    unfit (x .text .now) (x .at) (x .from) (x .neg) (p .0) (p .1) (whole-over (x .neg) (value 0 (take (run (drop (x .from) (x .text .now))) (drop (x .from) (x .text .now)))) (n .number-at .ensures .value-is) (sym (ap int64 (c .enum-told .given .1)) ∙ g .signed-i64 .ensures))
+    (unfit (x .text .now) (x .at) (x .from) (x .neg) (p .0) (p .1) (whole-over (x .neg) (value 0 (take (run (drop (x .from) (x .text .now))) (drop (x .from) (x .text .now)))) (n .number-at .ensures .value-is) (sym (ap int64 (c .enum-told .given .1)) ∙ g .signed-i64 .ensures)), refl)
 
 pub unsigned-at-spec : {M : Type 1} → statement M
 unsigned-at-spec =

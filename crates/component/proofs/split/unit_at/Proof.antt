@@ -4,7 +4,7 @@ use mathlib.Core.Path.{refl}
 use Prim.Native.Nat.{_+_}
 use Rattle.unit.specs.Read.{wordIs}
 use Rattle.component.specs.Read.{pieceIs}
-use Rattle.component.proofs.Pieces.{alone, no-unit-here, unit-ends, unit-goes-on}
+use Rattle.component.proofs.Pieces.{alone, no-unit-here, no-unit-place, unit-ends, unit-goes-on}
 use Rattle.component.proofs.split.unit_at.Statement.{statement}
 use Rattle.component.proofs.split.unit_at.Tie as tie
 
@@ -23,8 +23,11 @@ add-from c = search needs
 word-at-requires : tie.Need-word-at-requires
 word-at-requires c κs = search needs
 
-enum-told : tie.Need-enum-told
-enum-told c = search needs
+enum-known-began : tie.Need-enum-known-began
+enum-known-began c = search needs
+
+bad-unit-requires : tie.Need-bad-unit-requires
+bad-unit-requires c κs = search needs
 
 enum-known-unit : tie.Need-enum-known-unit
 enum-known-unit c = search needs
@@ -35,11 +38,13 @@ enum-known-unit-2 c = search needs
 returns-2 : tie.Need-returns-2
 unfolding pieceIs wordIs
 returns-2 c =
-    let k = c .before .before in
+    let g = c .before .before in
+    let k = g .before .before in
     let w = k .before in
     let i = w .before in
     let x = i .before .before .args in
-    no-unit-here (x .text .now) (x .at) (x .amount) (x .end) (i .before .before .pre) (i .if1 .left) (w .white-len .result) (x .end + w .white-len .result) (w .white-len .ensures .0) refl (rw (c .enum-told .given .1) at (k .word-at .ensures))
+    let n = rw (g .began .given .1) at (k .word-at .ensures) in
+    rw (c .bad-unit .ensures, n .1) (no-unit-here (x .text .now) (x .at) (x .amount) (x .end) (i .before .before .pre) (i .if1 .left) (w .white-len .result) (x .end + w .white-len .result) (w .white-len .ensures .0) refl (n .0), no-unit-place (x .text .now) (x .at) (x .amount) (x .end) (i .before .before .pre) (i .if1 .left) (w .white-len .result) (x .end + w .white-len .result) (w .white-len .ensures .0) refl)
 
 returns-3 : tie.Need-returns-3
 unfolding pieceIs wordIs
@@ -68,7 +73,8 @@ unit-at-spec =
     white-len-requires
     add-from
     word-at-requires
-    enum-told
+    enum-known-began
+    bad-unit-requires
     enum-known-unit
     enum-known-unit-2
     returns-2

@@ -1,6 +1,6 @@
 -- `unit::words::word_at` meets its contract, by the laws of the letters from a place on. Assumes nothing.
 use borrow.Author.Needs.{needs}
-use mathlib.Core.Path.{sym, ap, _∙_}
+use mathlib.Core.Path.{refl, sym, ap, _∙_}
 use Rattle.unit.specs.Read.{unitRead, wordIs}
 use Rattle.unit.proofs.WordLaws.{past-none, goes-on, no-unit, last-unit, more-unit}
 use Rattle.unit.proofs.words.word_at.Statement.{statement}
@@ -10,7 +10,7 @@ returns : tie.Need-returns
 unfolding wordIs
 returns c =
     let x = c .before .before .args in
-    past-none (x .text .now) (x .at) (c .if1 .taken)
+    (past-none (x .text .now) (x .at) (c .if1 .taken), refl)
 
 letters-at-requires : tie.Need-letters-at-requires
 letters-at-requires c κs = search needs
@@ -30,7 +30,7 @@ returns-2 c =
     let k = c .before .before in
     let l = k .before in
     let x = l .before .before .before .args in
-    no-unit (x .text .now) (x .at) (l .letters-at .result) (l .letters-at .ensures) (sym (ap unitRead (c .enum-told .given .1)) ∙ k .unit-of-key .ensures)
+    (no-unit (x .text .now) (x .at) (l .letters-at .result) (l .letters-at .ensures) (sym (ap unitRead (c .enum-told .given .1)) ∙ k .unit-of-key .ensures), refl)
 
 returns-3 : tie.Need-returns-3
 unfolding wordIs
@@ -51,7 +51,7 @@ returns-4 c =
     let k = i .before .before .before .before in
     let l = k .before in
     let x = l .before .before .before .args in
-    goes-on (x .text .now) (x .at) (l .letters-at .result) (l .letters-at .ensures) (i .if2 .left) (sym (w .white-len .ensures .0) ∙ c .if3 .taken)
+    (goes-on (x .text .now) (x .at) (l .letters-at .result) (l .letters-at .ensures) (i .if2 .left) (sym (w .white-len .ensures .0) ∙ c .if3 .taken), refl)
 
 add-t8 : tie.Need-add-t8
 add-t8 c = search needs
