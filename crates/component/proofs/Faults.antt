@@ -118,10 +118,11 @@ module _ (n : ℕ) (a : List ℕ) where
   pub true-amount : isAmount n a ≡ true → Amount n a (amountOf n a)
   unfolding isAmount
   true-amount e =
-      amount-agrees n a (amountOf n a) .1
-      (ltb-true 0 (length a) (and-left (ltb 0 (length a)) (eqb (amountLen n a) (length a)) e),
-      eqb-true (amountLen n a) (length a) (and-right (ltb 0 (length a)) (eqb (amountLen n a) (length a)) e),
-      refl)
+      amount-agrees n a (amountOf n a) .1 (
+        ltb-true 0 (length a) (and-left (ltb 0 (length a)) (eqb (amountLen n a) (length a)) e),
+        eqb-true (amountLen n a) (length a) (and-right (ltb 0 (length a)) (eqb (amountLen n a) (length a)) e),
+        refl,
+      )
 
 module _ (n : ℕ) (t : List ℕ) where
   -- an amount piece is measured to its end
