@@ -20,7 +20,7 @@ use Rattle.unit.specs.Units.{isUnit, wordLen}
 use Rattle.unit.proofs.Spelling.{unit-first, word-on, word-off, word-end}
 use Rattle.unit.proofs.WordLaws.{word-is}
 use Rattle.amount.specs.Scan.{amountLen}
-use Rattle.component.specs.Grammar.{component}
+use Rattle.component.specs.Grammar.{Component}
 use Rattle.component.specs.Division.{Step, bad, stop, go, endStep, unitStep, restStep, amountStep, step}
 use Rattle.component.specs.Fault.{inAmount, pieceLen, isAmount, fault}
 use Rattle.component.proofs.Agreement.{rest-cons, end-cons}
@@ -346,3 +346,37 @@ module _ (n p : ℕ) (t : List ℕ) where
   -- what the division's step says of the pairs
   pub turn : Turn n p t (step n t)
   turn = by-test (isAmount n (take (pieceLen t) t)) turn-some turn-none
+
+-- ---- the pairs of a text t that begins at p, by the step
+
+-- the first pair q is of the component c, and d follows it
+pub record Next (n p : ℕ) (t : List ℕ) (c : Component) (d : List Pair) : Type 0 where
+  pub this : Pair
+  pub are : pairsFrom p t ≡ this ∷ d
+  pub component-is : componentOf this ≡ c
+  pub both : Good n p this
+
+module _ (n p : ℕ) (t : List ℕ) where
+  pub on-bad : step n t ≡ bad → firstBad n (pairsFrom p t) ≡ some (p + fault n t)
+  on-bad e = from (step n t) (turn n p t) e
+    where
+      from : (s : Step) → Turn n p t s → s ≡ bad → firstBad n (pairsFrom p t) ≡ some (p + fault n t)
+      from s (turn-bad h) e = h
+      from s (turn-stop q P G) e = let z : _≡_ {A = ℕ} 0 1 = cc in absurd (omega arith)
+      from s (turn-go q k P G) e = let z : _≡_ {A = ℕ} 0 1 = cc in absurd (omega arith)
+
+  pub on-stop : {c : Component} → step n t ≡ stop c → Next n p t c []
+  on-stop {c} e = from (step n t) (turn n p t) e
+    where
+      from : (s : Step) → Turn n p t s → s ≡ stop c → Next n p t c []
+      from s (turn-bad h) e = let z : _≡_ {A = ℕ} 0 1 = cc in absurd (omega arith)
+      from s (turn-stop q P G) e = record { this = q; are = P; component-is = cc; both = G }
+      from s (turn-go q k P G) e = let z : _≡_ {A = ℕ} 0 1 = cc in absurd (omega arith)
+
+  pub on-go : {c : Component} {k : ℕ} → step n t ≡ go c k → Next n p t c (pairsFrom (p + k) (drop k t))
+  on-go {c} {k} e = from (step n t) (turn n p t) e
+    where
+      from : (s : Step) → Turn n p t s → s ≡ go c k → Next n p t c (pairsFrom (p + k) (drop k t))
+      from s (turn-bad h) e = let z : _≡_ {A = ℕ} 0 1 = cc in absurd (omega arith)
+      from s (turn-stop q P G) e = let z : _≡_ {A = ℕ} 0 1 = cc in absurd (omega arith)
+      from s (turn-go q m P G) e = let i : m ≡ k = cc in record { this = q; are = rw i at P; component-is = cc; both = G }

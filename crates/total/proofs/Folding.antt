@@ -9,7 +9,7 @@ use native.Mathlib.Omega.{arith}
 use lib.Dec.{eqb}
 use lib.IntN.{natAbs}
 use lib.ListN.{length, getD, set, drop, replicate, getD-replicate}
-use lib.Seq.{getD-set-same, getD-set-other}
+use lib.Seq.{drop-drop, getD-set-same, getD-set-other}
 use mir.Syntax.{w64}
 use mir.Val.{SFits}
 use mir.Facts.{toZ-ofZ}
@@ -23,6 +23,7 @@ use Rattle.amount.specs.Grammar.{precision, valued}
 use Rattle.component.specs.Grammar.{Component}
 use Rattle.component.specs.Division.{step, bad, before, divide}
 use Rattle.component.specs.Spelled.{unitFor}
+use Rattle.component.specs.Fault.{fault}
 use Rattle.component.specs.Read.{Holds, LastIs, MoreIs}
 use Rattle.amount.specs.declared.IntervalAmount.{IntervalAmount}
 use Rattle.unit.specs.declared.IntervalUnit.{IntervalUnit}
@@ -31,10 +32,14 @@ use Rattle.amount.proofs.AmountLaws.{amount-value}
 use Rattle.component.proofs.Steps.{at-bad, at-last, at-more}
 use Rattle.rule.specs.Contribution.{Counts, contribution, zeros}
 use Rattle.rule.specs.Answer.{gives, onTotals, onDivision, monthDayNano}
-use Rattle.total.specs.Helpers.{Proper, added, onAdded}
+use Rattle.total.specs.Helpers.{Proper, added, onAdded, came, unfitWith}
 use Rattle.number.proofs.Sizes.{small-fits}
 use Rattle.rule.proofs.Turns.{mark, unseen, addTo, settle, settle-start, settle-bad, settle-last, settle-more, settle-same}
 use Rattle.rule.proofs.Demand3.{but-eight, eight}
+use Rattle.place.specs.Pieces.{Pair}
+use Rattle.place.specs.Where.{orLater, seenWith, noneSeen, firstBad, firstOf, pairsFrom, place}
+use Rattle.place.proofs.Turning.{Next, on-bad, on-stop, on-go}
+use Rattle.total.proofs.Ahead.{ahead, ahead-start, ahead-bad, ahead-next, ahead-end, ahead-same}
 
 -- ---- marks
 
@@ -75,6 +80,18 @@ abbrev pub Goes : List ℕ → IntervalUnit → ℕ → List Bool → Bool → O
 Goes s u at seen repeated total =
     onDivision precision u (divide precision s) ≡ settle precision u (seenIn seen) repeated total (divide precision (drop at s))
 
+-- and the place of its refusal likewise, by where a unit first came again and where the totals first did not fit
+abbrev pub Places : List ℕ → IntervalUnit → ℕ → List Bool → Option ℕ → Option Counts → Option ℕ → Type 0
+Places s u at seen repeated total unfit =
+    firstOf precision u (pairsFrom 0 s) ≡ ahead precision u (seenIn seen) repeated total unfit (pairsFrom at (drop at s))
+
+-- with one component more, a unit has come again where it had, or where this one's was seen
+pub came-or : (r : Option ℕ) (again : Bool) (at : ℕ) → came (orLater r (cond again (some at) none)) ≡ came r || again
+unfolding came orLater
+came-or none true at = refl
+came-or none false at = refl
+came-or (some p) again at = refl
+
 -- a fraction is read back
 reads-frac : (a : IntervalAmount) → natAbs (a .frac) < 10 ^ precision → rd w64 (a .frac) ≡ a .frac
 reads-frac a h = toZ-ofZ (small-fits w64 (a .frac) (omega arith))
@@ -83,13 +100,26 @@ reads-frac a h = toZ-ofZ (small-fits w64 (a .frac) (omega arith))
 pub proper : (a : IntervalAmount) → SFits w64 (a .integer) → {c : Component} {w : Option IntervalUnit} → Holds precision c a w → Proper (rd w64 (a .integer)) (rd w64 (a .frac))
 proper a F H = rw (toZ-ofZ F, reads-frac a (H .small)) (record { one-sign = H .same-sign; small = H .small })
 
+-- what the code counts of an amount is what its component gives
+counted : (u : IntervalUnit) (a : IntervalAmount) (v : IntervalUnit) → SFits w64 (a .integer) → (c : Component) (w : Option IntervalUnit) → Holds precision c a w → unitFor u c ≡ v → contribution precision v (valued (rd w64 (a .integer)) (rd w64 (a .frac))) ≡ gives precision u c
+unfolding gives
+counted u a v F c w H e =
+    let f : rd w64 (a .frac) ≡ a .frac = reads-frac a (H .small) in
+    rw (toZ-ofZ F, f, ← amount-value (H .amount-is), ← e)
+
 -- what the code adds is what the definition adds
 added-is : (u : IntervalUnit) (o : Option Counts) (c : Component) → onAdded o (gives precision u c) ≡ addTo precision u o c
 unfolding onAdded added addTo
 added-is u none c = refl
 added-is u (some k) c = refl
 
--- the answer at a last component is not 8
+-- the answer at a last component is neither 1 nor 8
+not-one : (b : Bool) (o : Option Counts) → cond b (refused 9) (onTotals o) ≡ refused 1 → ⊥
+unfolding onTotals
+not-one true o e = let z : _≡_ {A = ℕ} 9 1 = cc in omega arith
+not-one false none e = let z : _≡_ {A = ℕ} 10 1 = cc in omega arith
+not-one false (some c) e = let z : _≡_ {A = ℕ} 0 1 = cc in omega arith
+
 not-eight : (b : Bool) (o : Option Counts) → cond b (refused 9) (onTotals o) ≡ refused 8 → ⊥
 unfolding onTotals
 not-eight true o e = let z : _≡_ {A = ℕ} 9 8 = cc in omega arith
@@ -102,6 +132,22 @@ module _ (s : List ℕ) (u : IntervalUnit) where
       settle-start precision u (divide precision s) ∙
       settle-same precision u unseen (seenIn (replicate 12 false)) none-marked false (some zeros) (divide precision s)
 
+  pub starts-place : Places s u 0 (replicate 12 false) none (some zeros) none
+  unfolding noneSeen unseen
+  starts-place =
+      ahead-start precision u (pairsFrom 0 s) ∙
+      ahead-same precision u noneSeen (seenIn (replicate 12 false)) (λ v. none-marked v) none (some zeros) none (pairsFrom 0 s)
+
+  -- where the text is UTF-8, or is not
+  place-in : utf8 s ≡ true → place precision u s ≡ firstOf precision u (pairsFrom 0 s)
+  unfolding place
+  place-in e = rw e
+
+  -- a text with another answer than 1 is UTF-8
+  answered-utf8 : {r : Outcome Counts} → r ≡ monthDayNano precision u s → (r ≡ refused 1 → ⊥) → utf8 s ≡ true
+  unfolding monthDayNano
+  answered-utf8 e f = by-test (utf8 s) (λ h. h) (λ h. absurd (f (e ∙ rw h)))
+
   module _ (at : ℕ) (seen : List Bool) (repeated : Bool) (total : Option Counts) (G : Goes s u at seen repeated total) where
     -- no component: 8, or 1
     pub bad-answer : step precision (drop at s) ≡ bad → {k : ℕ} → k ≡ numberIn s 8 → refused k ≡ monthDayNano precision u s
@@ -113,10 +159,7 @@ module _ (s : List ℕ) (u : IntervalUnit) where
     module _ (a : IntervalAmount) (v : IntervalUnit) {k : ℕ} (K : k ≡ rank v) {t : Option Counts} (F : SFits w64 (a .integer)) (T : t ≡ onAdded total (contribution precision v (valued (rd w64 (a .integer)) (rd w64 (a .frac))))) where
       -- of a component c
       totals-are : (c : Component) (w : Option IntervalUnit) → Holds precision c a w → unitFor u c ≡ v → t ≡ addTo precision u total c
-      unfolding gives
-      totals-are c w H e =
-          let f : rd w64 (a .frac) ≡ a .frac = reads-frac a (H .small) in
-          T ∙ rw (toZ-ofZ F, f, ← amount-value (H .amount-is), ← e) (added-is u total c)
+      totals-are c w H e = T ∙ rw (counted u a v F c w H e) (added-is u total c)
 
       pub last-answer : {w : Option IntervalUnit} → LastIs precision s at a w → v ≡ orElse u w → {r : Outcome Counts} → r ≡ cond (repeated || getD seen k false) (refused 9) (onTotals t) → r ≡ monthDayNano precision u s
       last-answer {w} L o {r} R =
@@ -124,6 +167,10 @@ module _ (s : List ℕ) (u : IntervalUnit) where
           let e : unitFor u c ≡ v = L .holds .unit-is u ∙ sym o in
           let n : onDivision precision u (divide precision s) ≡ cond (repeated || getD seen k false) (refused 9) (onTotals t) = G ∙ rw (at-last precision s at (L .stepped), settle-last precision u (seenIn seen) repeated total c, e, K, totals-are c w (L .holds) e) in
           R ∙ sym (but-eight precision u s n (not-eight (repeated || getD seen k false) t))
+
+      -- so the text is UTF-8
+      pub last-utf8 : {r : Outcome Counts} → r ≡ cond (repeated || getD seen k false) (refused 9) (onTotals t) → r ≡ monthDayNano precision u s → utf8 s ≡ true
+      last-utf8 R A = answered-utf8 A (λ e. not-one (repeated || getD seen k false) t (sym R ∙ e))
 
       pub more-goes : length seen ≡ 12 → {x : ℕ} → MoreIs precision s at a v x → Goes s u x (set seen k true) (repeated || getD seen k false) t
       unfolding orElse
@@ -135,3 +182,44 @@ module _ (s : List ℕ) (u : IntervalUnit) where
           G ∙
           rw (d, settle-more precision u (seenIn seen) repeated total c (divide precision (drop x s)), e, K, totals-are c (some v) (M .holds) e)
           (settle-same precision u (mark (seenIn seen) v) (seenIn (set seen (rank v) true)) (one-marked seen h v) (repeated || getD seen (rank v) false) (addTo precision u total c) (divide precision (drop x s)))
+
+  -- the same of places, where a unit first came again at `repeated` and the totals first did not fit at `unfit`
+  module _ (at : ℕ) (seen : List Bool) (repeated : Option ℕ) (total : Option Counts) (unfit : Option ℕ) (P : Places s u at seen repeated total unfit) where
+    -- no component: the first bad piece
+    pub bad-place : step precision (drop at s) ≡ bad → {p : ℕ} → p ≡ at + fault precision (drop at s) → {o : Option ℕ} → o ≡ cond (utf8 s) (some p) none → o ≡ place precision u s
+    unfolding place
+    bad-place e {p} h o =
+        let f : firstOf precision u (pairsFrom 0 s) ≡ some p = P ∙ ahead-bad precision u (seenIn seen) repeated total unfit (pairsFrom at (drop at s)) (rw h (on-bad precision at (drop at s) e)) in
+        o ∙ rw f
+
+    module _ (a : IntervalAmount) (v : IntervalUnit) {k : ℕ} (K : k ≡ rank v) (F : SFits w64 (a .integer)) where
+      -- what the component adds
+      abbrev more : Counts
+      more = contribution precision v (valued (rd w64 (a .integer)) (rd w64 (a .frac)))
+
+      -- the pairs behind a component c, which are d
+      next-place : (c : Component) (w : Option IntervalUnit) → Holds precision c a w → unitFor u c ≡ v → {d : List Pair} → Next precision at (drop at s) c d
+          → firstOf precision u (pairsFrom 0 s) ≡ ahead precision u (seenWith (seenIn seen) v) (orLater repeated (cond (getD seen k false) (some at) none)) (onAdded total more) (orLater unfit (unfitWith total more at)) d
+      next-place c w H e {d} N =
+          P ∙
+          rw (N .are, ahead-next precision u (N .both) (N .component-is) (seenIn seen) repeated total unfit d, counted u a v F c w H e, added-is u total c, e, K)
+
+      pub last-place : {w : Option IntervalUnit} → LastIs precision s at a w → v ≡ orElse u w → utf8 s ≡ true → {o r x : Option ℕ} → r ≡ orLater repeated (cond (getD seen k false) (some at) none) → x ≡ orLater unfit (unfitWith total more at) → o ≡ orLater r x → o ≡ place precision u s
+      last-place {w} L i U R X O =
+          let c = L .this in
+          let e : unitFor u c ≡ v = L .holds .unit-is u ∙ sym i in
+          O ∙
+          rw (R, X)
+          (sym (place-in U ∙ next-place c w (L .holds) e (on-stop precision at (drop at s) (L .stepped)) ∙
+          ahead-end precision u (seenWith (seenIn seen) v) (orLater repeated (cond (getD seen k false) (some at) none)) (onAdded total more) (orLater unfit (unfitWith total more at))))
+
+      pub more-place : length seen ≡ 12 → {x : ℕ} → MoreIs precision s at a v x → {r y : Option ℕ} {t : Option Counts} → r ≡ orLater repeated (cond (getD seen k false) (some at) none) → t ≡ onAdded total more → y ≡ orLater unfit (unfitWith total more at) → Places s u x (set seen k true) r t y
+      unfolding orElse seenWith mark
+      more-place h {x} M {r} {y} {t} R T Y =
+          let c = M .this in
+          let e : unitFor u c ≡ v = M .holds .unit-is u in
+          let q : at + (x - at) ≡ x = omega (arith, M .further) in
+          let N : Next precision at (drop at s) c (pairsFrom x (drop x s)) = rw (q, drop-drop (x - at) at s, q) at (on-go precision at (drop at s) (M .stepped)) in
+          next-place c (some v) (M .holds) e N ∙
+          rw (R, T, Y)
+          (ahead-same precision u (seenWith (seenIn seen) v) (seenIn (set seen k true)) (rw K (one-marked seen h v)) (orLater repeated (cond (getD seen k false) (some at) none)) (onAdded total more) (orLater unfit (unfitWith total more at)) (pairsFrom x (drop x s)))

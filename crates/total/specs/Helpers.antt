@@ -1,6 +1,6 @@
 -- What the functions behind the reader find on the way: its contract names none of it. Assumes nothing.
 use mathlib.Core.Path.{_≡_}
-use mathlib.Core.Bool.{cond, _&&_}
+use mathlib.Core.Bool.{Bool, true, false, cond, _&&_}
 use mathlib.Core.Option.{Option, none, some}
 use Prim.Native.Nat.{ℕ, _+_, _*_, _^_, _≤_, _<_}
 use lib.IntN.{ℤ, natAbs}
@@ -10,11 +10,35 @@ use Rattle.rule.specs.Contribution.{Counts, counts, fits, plus}
 use Rattle.total.specs.Read.{countsOf}
 use Rattle.total.specs.declared.Sum.{Sum}
 use Rattle.total.specs.declared.Sum.the-variants.{Fits, Over}
+use Rattle.total.specs.declared.components.Totals.{Totals}
+use Rattle.total.specs.declared.components.Totals.the-variants.{Fit, Over as OverAt}
+use Rattle.total.specs.declared.components.Repeated.{Repeated}
+use Rattle.total.specs.declared.components.Repeated.the-variants.{No as NotAgain, At as AgainAt}
 
 -- the counts that fit, or none
 abbrev pub sumOf : Sum → Option Counts
 sumOf (Fits i) = some (countsOf i)
 sumOf Over = none
+
+-- the running totals that fit, or none
+abbrev pub totalsOf : Totals → Option Counts
+totalsOf (Fit i) = some (countsOf i)
+totalsOf (OverAt p) = none
+
+-- where they first did not
+abbrev pub unfitOf : Totals → Option ℕ
+unfitOf (Fit i) = none
+unfitOf (OverAt p) = some p
+
+-- where a unit first came again
+abbrev pub repeatOf : Repeated → Option ℕ
+repeatOf NotAgain = none
+repeatOf (AgainAt p) = some p
+
+-- there is such a place
+unfoldable pub came : Option ℕ → Bool
+came none = false
+came (some p) = true
 
 -- most is the largest number that times k fits 64 signed bits, and no multiple of k is 2^63
 pub record Most (k most : ℕ) : Type 0 where
@@ -54,3 +78,8 @@ added c k = cond (fits k && fits (plus c k)) (some (plus c k)) none
 unfoldable pub onAdded : Option Counts → Counts → Option Counts
 onAdded none k = none
 onAdded (some c) k = added c k
+
+-- the place at, where the totals with a contribution k no longer fit
+unfoldable pub unfitWith : Option Counts → Counts → ℕ → Option ℕ
+unfitWith none k at = none
+unfitWith (some c) k at = cond (fits k && fits (plus c k)) none (some at)

@@ -17,12 +17,12 @@ ghost use Prim.Native.Nat.{_*_, _^_, _≤_, _<_};
 ghost use lib.IntN.{pos, natAbs, _+ℤ_, _*ℤ_};
 ghost use lib.Signed.{quotZ};
 ghost use Rattle.number.specs.Widths.{fit, int32, int64};
-ghost use Rattle.amount.specs.Grammar.{precision, valued};
+ghost use Rattle.amount.specs.Grammar.{precision};
 ghost use Rattle.amount.specs.Read.{valueOf, SameSign};
 ghost use Rattle.rule.specs.Contribution.{times, wholeTimes, fracTimes, contribution, counts as threeOf, plus};
 ghost use Rattle.total.specs.Read.{countsOf};
 ghost use Rattle.count.specs.Read.{maybeMonths, maybeDays, maybeNanos};
-ghost use Rattle.total.specs.Helpers.{sumOf, Most, Proper, Ratio, together, fitting, added, onAdded};
+ghost use Rattle.total.specs.Helpers.{sumOf, Most, Proper, Ratio, together, fitting, added};
 
 // A whole part times k and a part of a fraction, as a count of 32 bits.
 pub fn count32(whole: i64, k: u32, part: i64) -> Int32
@@ -198,18 +198,5 @@ impl Interval {
             return Sum::Over;
         };
         self.plus(more)
-    }
-}
-
-impl Sum {
-    // Once a count did not fit, none does. The amount comes as its two numbers, which stay in registers.
-    pub(crate) fn add(self, integer: i64, frac: i64, unit: IntervalUnit) -> Sum
-        requires { ⌜ Proper integer frac ⌝ }
-        ensures { λ r. ⌜ sumOf r ≡ onAdded (sumOf self) (contribution precision unit (valued integer frac)) ⌝ }
-    {
-        match self {
-            Sum::Fits(total) => total.add(IntervalAmount { integer, frac }, unit),
-            Sum::Over => Sum::Over,
-        }
     }
 }

@@ -2,7 +2,7 @@
 use count::Days;
 use count::Months;
 use count::Nanos;
-use refusal::Refusal;
+use place::IntervalRefusal;
 use unit::IntervalUnit;
 ghost use mathlib.Core.Path.{_≡_};
 
@@ -25,7 +25,7 @@ pub enum Sum {
 // A reader's answer of months, days and nanoseconds.
 pub enum IntervalRead {
     Value(Interval),
-    Refused(Refusal),
+    Refused(IntervalRefusal),
 }
 
 // The unit of a last component that has none.
