@@ -1,6 +1,7 @@
 -- What a C caller finds after a call: a status, and the cells that it lent. The refusals' numbers are document 01's. Assumes nothing.
 use mathlib.Core.Path.{_≡_}
 use mathlib.Core.List.{List}
+use mathlib.Core.Option.{Option, none, some}
 use Prim.Native.Nat.{ℕ}
 use lib.IntN.{ℤ}
 use Rattle.parse_column.specs.Read.{wholeOf}
@@ -12,6 +13,11 @@ use Rattle.whole_column.specs.Answer.{Whole, all-accepted, first-refused, not-r
 abbrev pub Told : {A : Type 0} → Outcome A → ℕ → A → A → Type 0
 Told (accepted v) status before after = (status ≡ 0) × (after ≡ v)
 Told (refused n) status before after = (status ≡ n) × (after ≡ before)
+
+-- the cell `place`: a refusal's place is written, and without one the cell is as it was
+abbrev pub ToldPlace : Option ℕ → ℕ → ℕ → Type 0
+ToldPlace none before after = after ≡ before
+ToldPlace (some p) before after = after ≡ p
 
 -- of a whole column: accepted, status 0; a text refused, its number, and the cell `index` holds its index; no text read, the number alone
 abbrev pub ToldAt : Whole → ℕ → ℕ → ℕ → Type 0

@@ -1,15 +1,20 @@
 // An answer as a status and cells: the one place that writes what a caller lent, but for the cells of a whole column.
 use interval::DayTimeRead;
+use interval::YearMonthRead;
 use parse_column::ColumnRead;
+use place::IntervalRefusal;
 use refusal::Read32;
 use refusal::Read64;
+use refusal::Refusal;
 use total::IntervalRead;
-ghost use Rattle.refusal.specs.Outcome.{outcome32, outcome64};
+ghost use mathlib.Core.Path.{_≡_};
+ghost use Rattle.refusal.specs.Outcome.{outcome32, outcome64, numberOf};
 ghost use Rattle.rule.specs.Meaning.{dayTimeOf};
 ghost use Rattle.rule.specs.Contribution.{counts};
-ghost use Rattle.interval.specs.Read.{dayTimeOutcome};
-ghost use Rattle.total.specs.Read.{intervalOutcome};
-ghost use Rattle.cells.specs.Cells.{Told, Tells};
+ghost use Rattle.place.specs.Read.{refusalOf, placeIn};
+ghost use Rattle.interval.specs.Read.{yearMonthOutcome, yearMonthPlace, dayTimeOutcome, dayTimePlace};
+ghost use Rattle.total.specs.Read.{intervalOutcome, placeRead};
+ghost use Rattle.cells.specs.Cells.{Told, ToldPlace, Tells};
 
 pub fn put64(r: Read64, out: &mut i64) -> u8
     ensures { λ status. ⌜ Told (outcome64 r) status (now (out .entry)) (now (out .exit)) ⌝ }
@@ -35,8 +40,43 @@ pub fn put32(r: Read32, out: &mut i32) -> u8
     }
 }
 
-pub fn put_day_time(r: DayTimeRead, days: &mut i32, millis: &mut i32) -> u8
-    ensures { λ status. ⌜ Told (dayTimeOutcome r) status (dayTimeOf (now (days .entry)) (now (millis .entry))) (dayTimeOf (now (days .exit)) (now (millis .exit))) ⌝ }
+// A refusal as its number, and the cell that tells where: 8, 9 and 10 have a place, and nothing is written with 1 and 11.
+pub fn put_place(why: IntervalRefusal, place: &mut usize) -> u8
+    ensures { λ status. ⌜ (status ≡ numberOf (refusalOf why)) × ToldPlace (placeIn why) (now (place .entry)) (now (place .exit)) ⌝ }
+{
+    match why {
+        IntervalRefusal::NotUtf8 => Refusal::NotUtf8.number(),
+        IntervalRefusal::Interval(at) => {
+            *place = at;
+            Refusal::Interval.number()
+        }
+        IntervalRefusal::RepeatedUnit(at) => {
+            *place = at;
+            Refusal::RepeatedUnit.number()
+        }
+        IntervalRefusal::Overflow(at) => {
+            *place = at;
+            Refusal::Overflow.number()
+        }
+        IntervalRefusal::Narrowed => Refusal::Narrowed.number(),
+    }
+}
+
+pub fn put_months(r: YearMonthRead, months: &mut i32, place: &mut usize) -> u8
+    ensures { λ status. ⌜ Told (yearMonthOutcome r) status (now (months .entry)) (now (months .exit)) × ToldPlace (yearMonthPlace r) (now (place .entry)) (now (place .exit)) ⌝ }
+{
+    match r {
+        YearMonthRead::Value(v) => {
+            let m = v.0;
+            *months = m;
+            0
+        }
+        YearMonthRead::Refused(why) => put_place(why, place),
+    }
+}
+
+pub fn put_day_time(r: DayTimeRead, days: &mut i32, millis: &mut i32, place: &mut usize) -> u8
+    ensures { λ status. ⌜ Told (dayTimeOutcome r) status (dayTimeOf (now (days .entry)) (now (millis .entry))) (dayTimeOf (now (days .exit)) (now (millis .exit))) × ToldPlace (dayTimePlace r) (now (place .entry)) (now (place .exit)) ⌝ }
 {
     match r {
         DayTimeRead::Value(v) => {
@@ -46,12 +86,18 @@ pub fn put_day_time(r: DayTimeRead, days: &mut i32, millis: &mut i32) -> u8
             *millis = m;
             0
         }
-        DayTimeRead::Refused(why) => why.number(),
+        DayTimeRead::Refused(why) => put_place(why, place),
     }
 }
 
-pub fn put_interval(r: IntervalRead, months: &mut i32, days: &mut i32, nanos: &mut i64) -> u8
-    ensures { λ status. ⌜ Told (intervalOutcome r) status (counts (now (months .entry)) (now (days .entry)) (now (nanos .entry))) (counts (now (months .exit)) (now (days .exit)) (now (nanos .exit))) ⌝ }
+pub fn put_interval(
+    r: IntervalRead,
+    months: &mut i32,
+    days: &mut i32,
+    nanos: &mut i64,
+    place: &mut usize,
+) -> u8
+    ensures { λ status. ⌜ Told (intervalOutcome r) status (counts (now (months .entry)) (now (days .entry)) (now (nanos .entry))) (counts (now (months .exit)) (now (days .exit)) (now (nanos .exit))) × ToldPlace (placeRead r) (now (place .entry)) (now (place .exit)) ⌝ }
 {
     match r {
         IntervalRead::Value(v) => {
@@ -63,7 +109,7 @@ pub fn put_interval(r: IntervalRead, months: &mut i32, days: &mut i32, nanos: &m
             *nanos = n;
             0
         }
-        IntervalRead::Refused(why) => why.number(),
+        IntervalRead::Refused(why) => put_place(why, place),
     }
 }
 

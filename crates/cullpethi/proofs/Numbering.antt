@@ -8,6 +8,7 @@ use Rattle.amount.specs.Grammar.{precision}
 use Rattle.unit.specs.declared.IntervalUnit.{IntervalUnit}
 use Rattle.rule.specs.Contribution.{Counts}
 use Rattle.rule.specs.Answer.{monthDayNano}
+use Rattle.place.specs.Where.{place}
 use lib.IntN.{ℤ}
 use lib.ListN.{length, take}
 use Rattle.cells.specs.Cells.{ToldColumn, Tells}
@@ -17,11 +18,15 @@ use Rattle.parse_column.specs.Read.{Answers}
 use Rattle.parse_column.specs.declared.ColumnRead.{ColumnRead}
 use Rattle.whole_column.specs.Answer.{whole, cellsAfter}
 use Rattle.cullpethi.specs.ColumnNumber.{inColumn}
-use Rattle.cullpethi.specs.DefaultUnit.{inUnit}
+use Rattle.cullpethi.specs.DefaultUnit.{inUnit, placeInUnit}
 
 pub in-unit : {o : Outcome Counts} {u v : IntervalUnit} {m : Option IntervalUnit} (t : List ℕ)
     → o ≡ monthDayNano precision v t → v ≡ u → some u ≡ m → o ≡ inUnit m t
 in-unit t e q s = e ∙ ap (λ (w : IntervalUnit). monthDayNano precision w t) q ∙ ap (λ (w : Option IntervalUnit). inUnit w t) s
+
+pub place-in-unit : {o : Option ℕ} {u v : IntervalUnit} {m : Option IntervalUnit} (t : List ℕ)
+    → o ≡ place precision v t → v ≡ u → some u ≡ m → o ≡ placeInUnit m t
+place-in-unit t e q s = e ∙ ap (λ (w : IntervalUnit). place precision w t) q ∙ ap (λ (w : Option IntervalUnit). placeInUnit w t) s
 
 module _ (bytes ends : List ℕ) (cells : List ℤ) (status i j : ℕ) where
   pub in-column : {m : Option Column} (r : ColumnRead) (after : List ℤ) (c : Column) → some c ≡ m

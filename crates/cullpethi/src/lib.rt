@@ -1,7 +1,9 @@
-// The C interface: each function returns 0 and writes its cells, or returns a refusal's number and writes nothing.
+// The C interface: each function returns 0 and writes its cells, or returns a refusal's number and writes nothing but, where there is one, the
+// cell that tells where (`index` of a column, `place` of an interval).
 use cells::put_day_time;
 use cells::put_index;
 use cells::put_interval;
+use cells::put_months;
 use cells::put32;
 use cells::put64;
 use date_column::Date32Type;
@@ -37,10 +39,12 @@ ghost use Rattle.time.specs.Answer.{timeNanos};
 ghost use Rattle.stamp_text.specs.Answer.{stampNanos};
 ghost use Rattle.site.specs.Site.{siteNanos};
 ghost use Rattle.unit.specs.Units.{unitNumbered};
-ghost use Rattle.cells.specs.Cells.{Told, ToldColumn};
+ghost use Rattle.unit.specs.declared.IntervalUnit.the-variants.{Year, Month, Day};
+ghost use Rattle.place.specs.Where.{place as placeOf};
+ghost use Rattle.cells.specs.Cells.{Told, ToldPlace, ToldColumn};
 ghost use Rattle.parse_column.specs.Numbers.{columnNumbered};
 ghost use Rattle.cullpethi.specs.ColumnNumber.{inColumn};
-ghost use Rattle.cullpethi.specs.DefaultUnit.{inUnit};
+ghost use Rattle.cullpethi.specs.DefaultUnit.{inUnit, placeInUnit};
 ghost use lib.ListN.{length};
 
 // A stamp, in nanoseconds since 1970-01-01.
@@ -149,10 +153,14 @@ pub extern "C" fn cullpethi_parse_date32(text: &[u8], days: &mut i32) -> u8
 
 // An interval in months; years are the default unit.
 #[no_mangle]
-pub extern "C" fn cullpethi_parse_interval_year_month(text: &[u8], months: &mut i32) -> u8
-    ensures { λ r. ⌜ Told (yearMonth precision (now (text .entry))) r (now (months .entry)) (now (months .exit)) ⌝ }
+pub extern "C" fn cullpethi_parse_interval_year_month(
+    text: &[u8],
+    months: &mut i32,
+    place: &mut usize,
+) -> u8
+    ensures { λ r. ⌜ Told (yearMonth precision (now (text .entry))) r (now (months .entry)) (now (months .exit)) × ToldPlace (placeOf precision Year (now (text .entry))) (now (place .entry)) (now (place .exit)) ⌝ }
 {
-    put32(parse_interval_year_month(text), months)
+    put_months(parse_interval_year_month(text), months, place)
 }
 
 // An interval in days and milliseconds; days are the default unit.
@@ -161,10 +169,11 @@ pub extern "C" fn cullpethi_parse_interval_day_time(
     text: &[u8],
     days: &mut i32,
     millis: &mut i32,
+    place: &mut usize,
 ) -> u8
-    ensures { λ r. ⌜ Told (dayTime precision (now (text .entry))) r (dayTimeOf (now (days .entry)) (now (millis .entry))) (dayTimeOf (now (days .exit)) (now (millis .exit))) ⌝ }
+    ensures { λ r. ⌜ Told (dayTime precision (now (text .entry))) r (dayTimeOf (now (days .entry)) (now (millis .entry))) (dayTimeOf (now (days .exit)) (now (millis .exit))) × ToldPlace (placeOf precision Day (now (text .entry))) (now (place .entry)) (now (place .exit)) ⌝ }
 {
-    put_day_time(parse_interval_day_time(text), days, millis)
+    put_day_time(parse_interval_day_time(text), days, millis, place)
 }
 
 // An interval in months, days and nanoseconds; months are the default unit.
@@ -174,10 +183,17 @@ pub extern "C" fn cullpethi_parse_interval_month_day_nano(
     months: &mut i32,
     days: &mut i32,
     nanos: &mut i64,
+    place: &mut usize,
 ) -> u8
-    ensures { λ r. ⌜ Told (plainMonthDayNano precision (now (text .entry))) r (counts (now (months .entry)) (now (days .entry)) (now (nanos .entry))) (counts (now (months .exit)) (now (days .exit)) (now (nanos .exit))) ⌝ }
+    ensures { λ r. ⌜ Told (plainMonthDayNano precision (now (text .entry))) r (counts (now (months .entry)) (now (days .entry)) (now (nanos .entry))) (counts (now (months .exit)) (now (days .exit)) (now (nanos .exit))) × ToldPlace (placeOf precision Month (now (text .entry))) (now (place .entry)) (now (place .exit)) ⌝ }
 {
-    put_interval(parse_interval_month_day_nano(text), months, days, nanos)
+    put_interval(
+        parse_interval_month_day_nano(text),
+        months,
+        days,
+        nanos,
+        place,
+    )
 }
 
 // The same with a default unit by its number, 0 century to 11 nanosecond; 255 where there is no such unit.
@@ -188,8 +204,9 @@ pub extern "C" fn cullpethi_parse_interval_month_day_nano_config(
     months: &mut i32,
     days: &mut i32,
     nanos: &mut i64,
+    place: &mut usize,
 ) -> u8
-    ensures { λ r. ⌜ Told (inUnit (unitNumbered «default_unit») (now (text .entry))) r (counts (now (months .entry)) (now (days .entry)) (now (nanos .entry))) (counts (now (months .exit)) (now (days .exit)) (now (nanos .exit))) ⌝ }
+    ensures { λ r. ⌜ Told (inUnit (unitNumbered «default_unit») (now (text .entry))) r (counts (now (months .entry)) (now (days .entry)) (now (nanos .entry))) (counts (now (months .exit)) (now (days .exit)) (now (nanos .exit))) × ToldPlace (placeInUnit (unitNumbered «default_unit») (now (text .entry))) (now (place .entry)) (now (place .exit)) ⌝ }
 {
     match unit_numbered(default_unit) {
         UnitRead::Unit(unit) => put_interval(
@@ -197,6 +214,7 @@ pub extern "C" fn cullpethi_parse_interval_month_day_nano_config(
             months,
             days,
             nanos,
+            place,
         ),
         UnitRead::None => 255,
     }

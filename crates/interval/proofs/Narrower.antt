@@ -2,6 +2,7 @@
 use mathlib.Core.Path.{_≡_, refl, sym, ap, _∙_}
 use mathlib.Core.Bool.{true, false}
 use mathlib.Core.Option.{Option, none, some, Option·none-ne-some}
+use mathlib.Core.List.{List}
 use Prim.Native.Nat.{ℕ, zero, suc, _%_, _^_}
 use native.Mathlib.Omega.{arith}
 use lib.Dec.{eqb}
@@ -19,9 +20,16 @@ use Rattle.number.proofs.Ranges.{rd}
 use Rattle.number.proofs.Quotients.{quot-fits}
 use Rattle.number.proofs.Sizes.{small-fits}
 use Rattle.refusal.specs.Outcome.{Outcome, accepted, refused}
+use Rattle.unit.specs.declared.IntervalUnit.{IntervalUnit}
+use Rattle.place.specs.Where.{place}
 use Rattle.rule.specs.Contribution.{Counts, counts}
 use Rattle.rule.specs.Answer.{toYearMonths, dayTimeFits, toDayTime, orNarrowed, narrowed}
 use Rattle.interval.specs.Helpers.{inDays, inMillis, dayTimeIf}
+
+-- ---- a promise of the answer, and the place of its refusal beside it
+
+pub with-place : {A B C : Type 0} → A × B → C → A × (B × C)
+with-place m e = (m .0, (m .1, e))
 
 -- ---- narrowed by f: a value, none, or a refusal that stands
 

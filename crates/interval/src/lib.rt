@@ -2,20 +2,20 @@
 use count::Days;
 use count::MaybeMonths;
 use count::Millis;
-use refusal::Read32;
-use refusal::Refusal;
+use count::Months;
+use place::IntervalRefusal;
 use total::Interval;
 use total::IntervalParseConfig;
 use total::IntervalRead;
 use unit::IntervalUnit;
 ghost use mathlib.Core.Path.{_≡_};
-ghost use Rattle.refusal.specs.Outcome.{outcome32};
 ghost use Rattle.amount.specs.Grammar.{precision};
 ghost use Rattle.unit.specs.declared.IntervalUnit.the-variants.{Year, Month, Day};
 ghost use Rattle.rule.specs.Answer.{monthDayNano, plainMonthDayNano, yearMonth, dayTime};
 ghost use Rattle.rule.specs.Meaning.{Means, Narrows, YearMonths, DayTimes};
-ghost use Rattle.total.specs.Read.{intervalOutcome};
-ghost use Rattle.interval.specs.Read.{dayTimeOutcome};
+ghost use Rattle.place.specs.Where.{place};
+ghost use Rattle.total.specs.Read.{intervalOutcome, placeRead};
+ghost use Rattle.interval.specs.Read.{yearMonthOutcome, yearMonthPlace, dayTimeOutcome, dayTimePlace};
 
 mod narrow;
 
@@ -31,24 +31,31 @@ pub enum MaybeDayTime {
     None,
 }
 
+// A reader's answer of months.
+pub enum YearMonthRead {
+    Value(Months),
+    Refused(IntervalRefusal),
+}
+
 // A reader's answer of days and milliseconds.
 pub enum DayTimeRead {
     Value(IntervalDayTime),
-    Refused(Refusal),
+    Refused(IntervalRefusal),
 }
 
 // Months alone; a unit that is left out is the year.
-pub fn parse_interval_year_month(value: &[u8]) -> Read32
-    ensures computed { λ r. ⌜ outcome32 r ≡ yearMonth precision (now (value .entry)) ⌝ }
-    ensures meant { λ r. ⌜ Narrows YearMonths precision Year (now (value .entry)) (outcome32 r) ⌝ }
+pub fn parse_interval_year_month(value: &[u8]) -> YearMonthRead
+    ensures computed { λ r. ⌜ yearMonthOutcome r ≡ yearMonth precision (now (value .entry)) ⌝ }
+    ensures meant { λ r. ⌜ Narrows YearMonths precision Year (now (value .entry)) (yearMonthOutcome r) ⌝ }
+    ensures place { λ r. ⌜ yearMonthPlace r ≡ place precision Year (now (value .entry)) ⌝ }
 {
     let config = IntervalParseConfig::new(IntervalUnit::Year);
     match Interval::parse(value, config) {
         IntervalRead::Value(interval) => match narrow::to_year_months(interval) {
-            MaybeMonths::Some(months) => Read32::Value(months.0),
-            MaybeMonths::None => Read32::Refused(Refusal::Narrowed),
+            MaybeMonths::Some(months) => YearMonthRead::Value(months),
+            MaybeMonths::None => YearMonthRead::Refused(IntervalRefusal::Narrowed),
         },
-        IntervalRead::Refused(why) => Read32::Refused(why),
+        IntervalRead::Refused(why) => YearMonthRead::Refused(why),
     }
 }
 
@@ -56,12 +63,13 @@ pub fn parse_interval_year_month(value: &[u8]) -> Read32
 pub fn parse_interval_day_time(value: &[u8]) -> DayTimeRead
     ensures computed { λ r. ⌜ dayTimeOutcome r ≡ dayTime precision (now (value .entry)) ⌝ }
     ensures meant { λ r. ⌜ Narrows DayTimes precision Day (now (value .entry)) (dayTimeOutcome r) ⌝ }
+    ensures place { λ r. ⌜ dayTimePlace r ≡ place precision Day (now (value .entry)) ⌝ }
 {
     let config = IntervalParseConfig::new(IntervalUnit::Day);
     match Interval::parse(value, config) {
         IntervalRead::Value(interval) => match narrow::to_day_time(interval) {
             MaybeDayTime::Some(both) => DayTimeRead::Value(both),
-            MaybeDayTime::None => DayTimeRead::Refused(Refusal::Narrowed),
+            MaybeDayTime::None => DayTimeRead::Refused(IntervalRefusal::Narrowed),
         },
         IntervalRead::Refused(why) => DayTimeRead::Refused(why),
     }
@@ -74,6 +82,7 @@ pub fn parse_interval_month_day_nano_config(
 ) -> IntervalRead
     ensures computed { λ r. ⌜ intervalOutcome r ≡ monthDayNano precision (config .«default_unit») (now (value .entry)) ⌝ }
     ensures meant { λ r. ⌜ Means precision (config .«default_unit») (now (value .entry)) (intervalOutcome r) ⌝ }
+    ensures place { λ r. ⌜ placeRead r ≡ place precision (config .«default_unit») (now (value .entry)) ⌝ }
 {
     Interval::parse(value, config)
 }
@@ -82,6 +91,7 @@ pub fn parse_interval_month_day_nano_config(
 pub fn parse_interval_month_day_nano(value: &[u8]) -> IntervalRead
     ensures computed { λ r. ⌜ intervalOutcome r ≡ plainMonthDayNano precision (now (value .entry)) ⌝ }
     ensures meant { λ r. ⌜ Means precision Month (now (value .entry)) (intervalOutcome r) ⌝ }
+    ensures place { λ r. ⌜ placeRead r ≡ place precision Month (now (value .entry)) ⌝ }
 {
     parse_interval_month_day_nano_config(value, IntervalParseConfig::new(IntervalUnit::Month))
 }

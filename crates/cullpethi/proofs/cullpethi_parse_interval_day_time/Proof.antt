@@ -1,4 +1,4 @@
--- `cullpethi::cullpethi_parse_interval_day_time` meets its contract: the reader's outcome is told. Assumes nothing.
+-- `cullpethi::cullpethi_parse_interval_day_time` meets its contract: the reader's outcome and place are told. Assumes nothing.
 use borrow.Author.Needs.{needs}
 use Rattle.cullpethi.proofs.cullpethi_parse_interval_day_time.Statement.{statement}
 use Rattle.cullpethi.proofs.cullpethi_parse_interval_day_time.Tie as tie
@@ -10,7 +10,9 @@ put-day-time-requires : tie.Need-put-day-time-requires
 put-day-time-requires c κs = search needs
 
 returns : tie.Need-returns
-returns c = rw (c .before .before .before .parse-interval-day-time .ensures .0) at (c .put-day-time .ensures)
+returns c =
+    let r = c .before .before .before .before .parse-interval-day-time .ensures in
+    rw (r .0, r .1 .1) at (c .put-day-time .ensures)
 
 pub cullpethi-parse-interval-day-time-spec : {M : Type 1} → statement M
 cullpethi-parse-interval-day-time-spec =

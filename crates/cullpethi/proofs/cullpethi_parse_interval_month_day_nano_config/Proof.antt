@@ -1,11 +1,11 @@
--- `cullpethi::cullpethi_parse_interval_month_day_nano_config` meets its contract: the outcome in the unit is told, or 255. Assumes nothing.
+-- `cullpethi::cullpethi_parse_interval_month_day_nano_config` meets its contract: the outcome in the unit and its place are told, or 255. Assumes nothing.
 use mathlib.Core.Path.{refl, sym, ap, _∙_}
 use mathlib.Core.Option.{Option}
 use Rattle.unit.specs.Read.{unitRead}
 use Rattle.unit.specs.declared.IntervalUnit.{IntervalUnit}
 use Rattle.rule.specs.Contribution.{counts}
 use Rattle.cullpethi.specs.DefaultUnit.{inUnit}
-use Rattle.cullpethi.proofs.Numbering.{in-unit}
+use Rattle.cullpethi.proofs.Numbering.{in-unit, place-in-unit}
 use Rattle.cells.proofs.Telling.{kept}
 use borrow.Author.Needs.{needs}
 use Rattle.cullpethi.proofs.cullpethi_parse_interval_month_day_nano_config.Statement.{statement}
@@ -32,20 +32,21 @@ enum-told c = search needs
 
 returns : tie.Need-returns
 returns c =
-    let p = c .before .before .before .before in
+    let p = c .before .before .before .before .before in
     let w = p .before in
     let x = w .before .before in
     let m = x .before .before in
     let a = m .before .before .args in
-    rw (in-unit (a .text .now) (p .parse-interval-month-day-nano-config .ensures .0) (w .new .ensures)
-    (sym (ap unitRead (x .unit .given .1)) ∙ m .unit-numbered .ensures)) at (c .put-interval .ensures)
+    let r = p .parse-interval-month-day-nano-config .ensures in
+    let e = sym (ap unitRead (x .unit .given .1)) ∙ m .unit-numbered .ensures in
+    rw (in-unit (a .text .now) (r .0) (w .new .ensures) e, place-in-unit (a .text .now) (r .1 .1) (w .new .ensures) e) at (c .put-interval .ensures)
 
 returns-2 : tie.Need-returns-2
 returns-2 c =
     let m = c .before .before in
     let a = m .before .before .args in
-    kept (counts (a .months .now) (a .days .now) (a .nanos .now))
-    (ap (λ (u : Option IntervalUnit). inUnit u (a .text .now)) (sym (m .unit-numbered .ensures) ∙ ap unitRead (c .enum-told .given .1))) refl
+    let e = sym (m .unit-numbered .ensures) ∙ ap unitRead (c .enum-told .given .1) in
+    (kept (counts (a .months .now) (a .days .now) (a .nanos .now)) (ap (λ (u : Option IntervalUnit). inUnit u (a .text .now)) e) refl, rw e refl)
 
 pub cullpethi-parse-interval-month-day-nano-config-spec : {M : Type 1} → statement M
 cullpethi-parse-interval-month-day-nano-config-spec =

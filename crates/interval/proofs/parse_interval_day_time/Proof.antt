@@ -2,10 +2,10 @@
 use borrow.Author.Needs.{needs}
 use mathlib.Core.Path.{sym, ap, _∙_}
 use Rattle.rule.specs.Answer.{toDayTime, dayTime}
-use Rattle.total.specs.Read.{intervalOutcome}
+use Rattle.total.specs.Read.{intervalOutcome, placeRead}
 use Rattle.interval.specs.Helpers.{maybeDayTime}
 use Rattle.rule.proofs.Demand3.{day-time-meant}
-use Rattle.interval.proofs.Narrower.{narrows-to, narrows-none, narrows-refused}
+use Rattle.interval.proofs.Narrower.{with-place, narrows-to, narrows-none, narrows-refused}
 use Rattle.interval.proofs.parse_interval_day_time.Statement.{statement}
 use Rattle.interval.proofs.parse_interval_day_time.Tie as tie
 
@@ -36,8 +36,8 @@ returns c =
     let y = c .before .before .before in
     let i = y .before .before in
     let p = i .before .before in
-    let o = sym (rw (p .before .new .ensures) at (p .parse .ensures)) ∙ ap intervalOutcome (i .interval .given .1) in
-    day-time-meant (narrows-to toDayTime o (sym (ap maybeDayTime (c .before .both .given .1)) ∙ y .to-day-time .ensures))
+    let o = sym (rw (p .before .new .ensures) at (p .parse .ensures .0)) ∙ ap intervalOutcome (i .interval .given .1) in
+    with-place (day-time-meant (narrows-to toDayTime o (sym (ap maybeDayTime (c .before .both .given .1)) ∙ y .to-day-time .ensures))) (sym (ap placeRead (i .interval .given .1)) ∙ rw (p .before .new .ensures) at (p .parse .ensures .1))
 
 returns-2 : tie.Need-returns-2
 unfolding dayTime
@@ -45,14 +45,14 @@ returns-2 c =
     let y = c .before .before in
     let i = y .before .before in
     let p = i .before .before in
-    let o = sym (rw (p .before .new .ensures) at (p .parse .ensures)) ∙ ap intervalOutcome (i .interval .given .1) in
-    day-time-meant (narrows-none toDayTime o (sym (ap maybeDayTime (c .enum-told .given .1)) ∙ y .to-day-time .ensures))
+    let o = sym (rw (p .before .new .ensures) at (p .parse .ensures .0)) ∙ ap intervalOutcome (i .interval .given .1) in
+    with-place (day-time-meant (narrows-none toDayTime o (sym (ap maybeDayTime (c .enum-told .given .1)) ∙ y .to-day-time .ensures))) (sym (ap placeRead (i .interval .given .1)) ∙ rw (p .before .new .ensures) at (p .parse .ensures .1))
 
 returns-3 : tie.Need-returns-3
 unfolding dayTime
 returns-3 c =
     let p = c .before .before .before in
-    day-time-meant (narrows-refused toDayTime (sym (rw (p .before .new .ensures) at (p .parse .ensures)) ∙ ap intervalOutcome (c .before .why .given .1)))
+    with-place (day-time-meant (narrows-refused toDayTime (sym (rw (p .before .new .ensures) at (p .parse .ensures .0)) ∙ ap intervalOutcome (c .before .why .given .1)))) (sym (ap placeRead (c .before .why .given .1)) ∙ rw (p .before .new .ensures) at (p .parse .ensures .1))
 
 pub parse-interval-day-time-spec : {M : Type 1} → statement M
 parse-interval-day-time-spec =

@@ -1,13 +1,11 @@
 -- `interval::parse_interval_year_month` meets its contract: the interval of the text, narrowed. Assumes nothing.
 use borrow.Author.Needs.{needs}
 use mathlib.Core.Path.{sym, ap, _∙_}
-use mir.Syntax.{w32}
-use mir.Facts.{toZ-ofZ}
 use Rattle.rule.specs.Answer.{toYearMonths, yearMonth}
-use Rattle.total.specs.Read.{intervalOutcome}
+use Rattle.total.specs.Read.{intervalOutcome, placeRead}
 use Rattle.count.specs.Read.{maybeMonths}
 use Rattle.rule.proofs.Demand3.{year-month-meant}
-use Rattle.interval.proofs.Narrower.{narrows-to, narrows-none, narrows-refused}
+use Rattle.interval.proofs.Narrower.{with-place, narrows-to, narrows-none, narrows-refused}
 use Rattle.interval.proofs.parse_interval_year_month.Statement.{statement}
 use Rattle.interval.proofs.parse_interval_year_month.Tie as tie
 
@@ -35,12 +33,11 @@ enum-known-why c = search needs
 returns : tie.Need-returns
 unfolding yearMonth
 returns c =
-    let m = c .before .before in
-    let y = m .before .before in
+    let y = c .before .before .before in
     let i = y .before .before in
     let p = i .before .before in
-    let o = sym (rw (p .before .new .ensures) at (p .parse .ensures)) ∙ ap intervalOutcome (i .interval .given .1) in
-    year-month-meant (narrows-to toYearMonths o (rw (toZ-ofZ {w = w32} (record { sfits = c .struct-told .given .0 .1 })) (sym (ap maybeMonths (m .months .given .1)) ∙ y .to-year-months .ensures)))
+    let o = sym (rw (p .before .new .ensures) at (p .parse .ensures .0)) ∙ ap intervalOutcome (i .interval .given .1) in
+    with-place (year-month-meant (narrows-to toYearMonths o (sym (ap maybeMonths (c .before .months .given .1)) ∙ y .to-year-months .ensures))) (sym (ap placeRead (i .interval .given .1)) ∙ rw (p .before .new .ensures) at (p .parse .ensures .1))
 
 returns-2 : tie.Need-returns-2
 unfolding yearMonth
@@ -48,14 +45,14 @@ returns-2 c =
     let y = c .before .before in
     let i = y .before .before in
     let p = i .before .before in
-    let o = sym (rw (p .before .new .ensures) at (p .parse .ensures)) ∙ ap intervalOutcome (i .interval .given .1) in
-    year-month-meant (narrows-none toYearMonths o (sym (ap maybeMonths (c .enum-told .given .1)) ∙ y .to-year-months .ensures))
+    let o = sym (rw (p .before .new .ensures) at (p .parse .ensures .0)) ∙ ap intervalOutcome (i .interval .given .1) in
+    with-place (year-month-meant (narrows-none toYearMonths o (sym (ap maybeMonths (c .enum-told .given .1)) ∙ y .to-year-months .ensures))) (sym (ap placeRead (i .interval .given .1)) ∙ rw (p .before .new .ensures) at (p .parse .ensures .1))
 
 returns-3 : tie.Need-returns-3
 unfolding yearMonth
 returns-3 c =
     let p = c .before .before .before in
-    year-month-meant (narrows-refused toYearMonths (sym (rw (p .before .new .ensures) at (p .parse .ensures)) ∙ ap intervalOutcome (c .before .why .given .1)))
+    with-place (year-month-meant (narrows-refused toYearMonths (sym (rw (p .before .new .ensures) at (p .parse .ensures .0)) ∙ ap intervalOutcome (c .before .why .given .1)))) (sym (ap placeRead (c .before .why .given .1)) ∙ rw (p .before .new .ensures) at (p .parse .ensures .1))
 
 pub parse-interval-year-month-spec : {M : Type 1} → statement M
 parse-interval-year-month-spec =
