@@ -3,9 +3,9 @@ use interval::DayTimeRead;
 use interval::YearMonthRead;
 use parse_column::ColumnRead;
 use place::IntervalRefusal;
+use place::MaybePlace;
 use refusal::Read32;
 use refusal::Read64;
-use refusal::Refusal;
 use total::IntervalRead;
 ghost use mathlib.Core.Path.{_≡_};
 ghost use Rattle.refusal.specs.Outcome.{outcome32, outcome64, numberOf};
@@ -44,21 +44,12 @@ pub fn put32(r: Read32, out: &mut i32) -> u8
 pub fn put_place(why: IntervalRefusal, place: &mut usize) -> u8
     ensures { λ status. ⌜ (status ≡ numberOf (refusalOf why)) × ToldPlace (placeIn why) (now (place .entry)) (now (place .exit)) ⌝ }
 {
-    match why {
-        IntervalRefusal::NotUtf8 => Refusal::NotUtf8.number(),
-        IntervalRefusal::Interval(at) => {
+    match why.place() {
+        MaybePlace::Some(at) => {
             *place = at;
-            Refusal::Interval.number()
+            why.number()
         }
-        IntervalRefusal::RepeatedUnit(at) => {
-            *place = at;
-            Refusal::RepeatedUnit.number()
-        }
-        IntervalRefusal::Overflow(at) => {
-            *place = at;
-            Refusal::Overflow.number()
-        }
-        IntervalRefusal::Narrowed => Refusal::Narrowed.number(),
+        MaybePlace::None => why.number(),
     }
 }
 

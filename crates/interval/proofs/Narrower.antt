@@ -21,15 +21,17 @@ use Rattle.number.proofs.Quotients.{quot-fits}
 use Rattle.number.proofs.Sizes.{small-fits}
 use Rattle.refusal.specs.Outcome.{Outcome, accepted, refused}
 use Rattle.unit.specs.declared.IntervalUnit.{IntervalUnit}
+use Rattle.place.specs.Place.{Place}
 use Rattle.place.specs.Where.{place}
+use Rattle.place.proofs.Placing.{placed}
 use Rattle.rule.specs.Contribution.{Counts, counts}
 use Rattle.rule.specs.Answer.{toYearMonths, dayTimeFits, toDayTime, orNarrowed, narrowed}
 use Rattle.interval.specs.Helpers.{inDays, inMillis, dayTimeIf}
 
 -- ---- a promise of the answer, and the place of its refusal beside it
 
-pub with-place : {A B C : Type 0} → A × B → C → A × (B × C)
-with-place m e = (m .0, (m .1, e))
+pub with-place : {A B : Type 0} {n : ℕ} {u : IntervalUnit} {t : List ℕ} {o : Option ℕ} → A × B → o ≡ place n u t → A × (B × ((o ≡ place n u t) × Place n u t o))
+with-place m e = (m .0, (m .1, (e, placed e)))
 
 -- ---- narrowed by f: a value, none, or a refusal that stands
 

@@ -13,6 +13,7 @@ ghost use Rattle.amount.specs.Grammar.{precision};
 ghost use Rattle.unit.specs.declared.IntervalUnit.the-variants.{Year, Month, Day};
 ghost use Rattle.rule.specs.Answer.{monthDayNano, plainMonthDayNano, yearMonth, dayTime};
 ghost use Rattle.rule.specs.Meaning.{Means, Narrows, YearMonths, DayTimes};
+ghost use Rattle.place.specs.Place.{Place};
 ghost use Rattle.place.specs.Where.{place};
 ghost use Rattle.total.specs.Read.{intervalOutcome, placeRead};
 ghost use Rattle.interval.specs.Read.{yearMonthOutcome, yearMonthPlace, dayTimeOutcome, dayTimePlace};
@@ -48,6 +49,7 @@ pub fn parse_interval_year_month(value: &[u8]) -> YearMonthRead
     ensures computed { λ r. ⌜ yearMonthOutcome r ≡ yearMonth precision (now (value .entry)) ⌝ }
     ensures meant { λ r. ⌜ Narrows YearMonths precision Year (now (value .entry)) (yearMonthOutcome r) ⌝ }
     ensures place { λ r. ⌜ yearMonthPlace r ≡ place precision Year (now (value .entry)) ⌝ }
+    ensures placed { λ r. ⌜ Place precision Year (now (value .entry)) (yearMonthPlace r) ⌝ }
 {
     let config = IntervalParseConfig::new(IntervalUnit::Year);
     match Interval::parse(value, config) {
@@ -64,6 +66,7 @@ pub fn parse_interval_day_time(value: &[u8]) -> DayTimeRead
     ensures computed { λ r. ⌜ dayTimeOutcome r ≡ dayTime precision (now (value .entry)) ⌝ }
     ensures meant { λ r. ⌜ Narrows DayTimes precision Day (now (value .entry)) (dayTimeOutcome r) ⌝ }
     ensures place { λ r. ⌜ dayTimePlace r ≡ place precision Day (now (value .entry)) ⌝ }
+    ensures placed { λ r. ⌜ Place precision Day (now (value .entry)) (dayTimePlace r) ⌝ }
 {
     let config = IntervalParseConfig::new(IntervalUnit::Day);
     match Interval::parse(value, config) {
@@ -83,6 +86,7 @@ pub fn parse_interval_month_day_nano_config(
     ensures computed { λ r. ⌜ intervalOutcome r ≡ monthDayNano precision (config .«default_unit») (now (value .entry)) ⌝ }
     ensures meant { λ r. ⌜ Means precision (config .«default_unit») (now (value .entry)) (intervalOutcome r) ⌝ }
     ensures place { λ r. ⌜ placeRead r ≡ place precision (config .«default_unit») (now (value .entry)) ⌝ }
+    ensures placed { λ r. ⌜ Place precision (config .«default_unit») (now (value .entry)) (placeRead r) ⌝ }
 {
     Interval::parse(value, config)
 }
@@ -92,6 +96,7 @@ pub fn parse_interval_month_day_nano(value: &[u8]) -> IntervalRead
     ensures computed { λ r. ⌜ intervalOutcome r ≡ plainMonthDayNano precision (now (value .entry)) ⌝ }
     ensures meant { λ r. ⌜ Means precision Month (now (value .entry)) (intervalOutcome r) ⌝ }
     ensures place { λ r. ⌜ placeRead r ≡ place precision Month (now (value .entry)) ⌝ }
+    ensures placed { λ r. ⌜ Place precision Month (now (value .entry)) (placeRead r) ⌝ }
 {
     parse_interval_month_day_nano_config(value, IntervalParseConfig::new(IntervalUnit::Month))
 }

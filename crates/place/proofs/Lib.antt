@@ -1,3 +1,5 @@
 -- Laws that belong to no one function.
 pub mod Cutting
 pub mod Turning
+pub mod Firsts
+pub mod Placing

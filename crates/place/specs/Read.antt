@@ -4,6 +4,8 @@ use Prim.Native.Nat.{ℕ}
 use Rattle.refusal.specs.Outcome.{Outcome, because}
 use Rattle.refusal.specs.declared.Refusal.{Refusal}
 use Rattle.refusal.specs.declared.Refusal.the-variants.{NotUtf8, Interval, RepeatedUnit, Overflow, Narrowed}
+use Rattle.place.specs.declared.MaybePlace.{MaybePlace}
+use Rattle.place.specs.declared.MaybePlace.the-variants.{Some as SomePlace, None as NoPlace}
 use Rattle.place.specs.declared.IntervalRefusal.{IntervalRefusal}
 use Rattle.place.specs.declared.IntervalRefusal.the-variants.{NotUtf8 as NotUtf8At, Interval as IntervalAt, RepeatedUnit as RepeatedUnitAt, Overflow as OverflowAt, Narrowed as NarrowedAt}
 
@@ -22,6 +24,11 @@ placeIn (IntervalAt p) = some p
 placeIn (RepeatedUnitAt p) = some p
 placeIn (OverflowAt p) = some p
 placeIn NarrowedAt = none
+
+-- the place that the code holds, if it holds one
+abbrev pub maybePlace : MaybePlace → Option ℕ
+maybePlace (SomePlace p) = some p
+maybePlace NoPlace = none
 
 -- a refusal as an outcome, without its place
 abbrev pub becauseOf : {A : Type 0} → IntervalRefusal → Outcome A

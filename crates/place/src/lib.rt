@@ -5,7 +5,7 @@ ghost use mathlib.Core.Bool.{cond};
 ghost use mathlib.Core.Option.{none, some};
 ghost use Rattle.refusal.specs.Outcome.{numberOf, numberIn};
 ghost use Rattle.utf8.specs.Utf8.{utf8};
-ghost use Rattle.place.specs.Read.{refusalOf, placeIn};
+ghost use Rattle.place.specs.Read.{refusalOf, placeIn, maybePlace};
 
 // A refusal of an interval text: 8, 9 and 10 have a place, counted in bytes of the text, and 1 and 11 have none.
 pub enum IntervalRefusal {
@@ -19,6 +19,12 @@ pub enum IntervalRefusal {
     Overflow(usize),
     // The narrowed interval form cannot hold the result.
     Narrowed,
+}
+
+// A place, or none.
+pub enum MaybePlace {
+    Some(usize),
+    None,
 }
 
 impl IntervalRefusal {
@@ -40,6 +46,19 @@ impl IntervalRefusal {
         ensures { λ r. ⌜ r ≡ numberOf (refusalOf self) ⌝ }
     {
         self.refusal().number()
+    }
+
+    // Its place, where it has one.
+    pub fn place(self) -> MaybePlace
+        ensures { λ r. ⌜ maybePlace r ≡ placeIn self ⌝ }
+    {
+        match self {
+            IntervalRefusal::NotUtf8 => MaybePlace::None,
+            IntervalRefusal::Interval(at) => MaybePlace::Some(at),
+            IntervalRefusal::RepeatedUnit(at) => MaybePlace::Some(at),
+            IntervalRefusal::Overflow(at) => MaybePlace::Some(at),
+            IntervalRefusal::Narrowed => MaybePlace::None,
+        }
     }
 
     // A text without a division, whose first bad piece begins at a place: that its bytes are no UTF-8 comes first, and has no place.

@@ -1,7 +1,10 @@
 // Intervals. `of` tells whether the name is one of their readers.
 use crate::show;
 use interval::DayTimeRead;
+use interval::YearMonthRead;
 use lines::names::default_unit;
+use place::IntervalRefusal;
+use place::MaybePlace;
 use total::IntervalParseConfig;
 use total::IntervalRead;
 use unit::IntervalUnit;
@@ -13,7 +16,7 @@ pub fn of(name: &[u8], text: &[u8]) -> bool {
         return true;
     }
     if check::same(name, b"year_month") {
-        show::read32(interval::parse_interval_year_month(text));
+        show_months(interval::parse_interval_year_month(text));
         return true;
     }
     if check::same(name, b"day_time") {
@@ -36,6 +39,13 @@ fn config(text: &[u8], default_unit: IntervalUnit) {
     ));
 }
 
+fn show_months(r: YearMonthRead) {
+    match r {
+        YearMonthRead::Value(x) => show::signed32(x.0),
+        YearMonthRead::Refused(why) => refused(why),
+    }
+}
+
 // Months, days and nanoseconds.
 fn show_interval(r: IntervalRead) {
     match r {
@@ -46,7 +56,7 @@ fn show_interval(r: IntervalRead) {
             show::bytes(b" ");
             show::signed(x.nanos.0);
         }
-        IntervalRead::Refused(why) => show::refused(why),
+        IntervalRead::Refused(why) => refused(why),
     }
 }
 
@@ -58,6 +68,18 @@ fn show_day_time(r: DayTimeRead) {
             show::bytes(b" ");
             show::signed32(x.millis.0);
         }
-        DayTimeRead::Refused(why) => show::refused(why),
+        DayTimeRead::Refused(why) => refused(why),
+    }
+}
+
+// The number, and behind it the place, where there is one.
+fn refused(why: IntervalRefusal) {
+    show::refused(why.refusal());
+    match why.place() {
+        MaybePlace::Some(at) => {
+            show::bytes(b" at ");
+            show::count(at);
+        }
+        MaybePlace::None => {}
     }
 }

@@ -1,5 +1,6 @@
 // Answers as they are stored: counts with commas between them, or `r` and the number of the refusal. Each function tells the length.
 use interval::DayTimeRead;
+use interval::YearMonthRead;
 use refusal::Read32;
 use refusal::Read64;
 use refusal::Refusal;
@@ -28,6 +29,16 @@ pub fn of32(r: Read32, out: &mut [u8]) -> usize
     }
 }
 
+// Months.
+pub fn of_months(r: YearMonthRead, out: &mut [u8]) -> usize
+    ensures { λ r. ⌜ Counts r (now (out .exit)) ⌝ }
+{
+    match r {
+        YearMonthRead::Value(x) => put_signed32(x.0, 0, out),
+        YearMonthRead::Refused(why) => refused(why.refusal(), out),
+    }
+}
+
 // Months, days and nanoseconds.
 pub fn of_interval(r: IntervalRead, out: &mut [u8]) -> usize
     ensures { λ r. ⌜ Counts r (now (out .exit)) ⌝ }
@@ -40,7 +51,7 @@ pub fn of_interval(r: IntervalRead, out: &mut [u8]) -> usize
             let comma = put(b",", days, out);
             put_signed(x.nanos.0, comma, out)
         }
-        IntervalRead::Refused(why) => refused(why, out),
+        IntervalRead::Refused(why) => refused(why.refusal(), out),
     }
 }
 
@@ -54,7 +65,7 @@ pub fn of_day_time(r: DayTimeRead, out: &mut [u8]) -> usize
             let comma = put(b",", days, out);
             put_signed32(x.millis.0, comma, out)
         }
-        DayTimeRead::Refused(why) => refused(why, out),
+        DayTimeRead::Refused(why) => refused(why.refusal(), out),
     }
 }
 

@@ -1,6 +1,7 @@
 // The reader of a name: what it answers to a text, as it is stored. Each function tells the answer's length, 0 where the name is no reader's.
 use crate::answer::of_day_time;
 use crate::answer::of_interval;
+use crate::answer::of_months;
 use crate::answer::of32;
 use crate::answer::of64;
 use date_column::Date32Type;
@@ -73,7 +74,7 @@ fn date_or_interval(name: &[u8], text: &[u8], out: &mut [u8]) -> usize
         return of_interval(interval::parse_interval_month_day_nano(text), out);
     }
     if check::same(name, b"year_month") {
-        return of32(interval::parse_interval_year_month(text), out);
+        return of_months(interval::parse_interval_year_month(text), out);
     }
     if check::same(name, b"day_time") {
         return of_day_time(interval::parse_interval_day_time(text), out);

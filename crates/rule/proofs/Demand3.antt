@@ -103,7 +103,7 @@ module _ (u : IntervalUnit) where
 -- ---- running totals
 
 -- each component of a list has an amount
-data Amounts (n : ℕ) : List Component → Type 0 where
+pub data Amounts (n : ℕ) : List Component → Type 0 where
   no-more : Amounts n []
   one-more : {p : Component} {d : List Component} {v : Value} → Amount n (p .amount) v → Amounts n d → Amounts n (p ∷ d)
 
@@ -111,7 +111,7 @@ complete-amounts : {n : ℕ} {t : List ℕ} {c : Component} {d : List Component}
 complete-amounts (glued A e) M = one-more A M
 complete-amounts (apart A w e) M = one-more A M
 
-amounts : {n : ℕ} {t : List ℕ} {d : List Component} → Divides n t d → Amounts n d
+pub amounts : {n : ℕ} {t : List ℕ} {d : List Component} → Divides n t d → Amounts n d
 amounts (bare A) = one-more A no-more
 amounts (last C) = complete-amounts C no-more
 amounts (more C w D) = complete-amounts C (amounts D)
@@ -126,12 +126,12 @@ module _ (n : ℕ) (u : IntervalUnit) where
   added : (c k : Counts) (d : List Component) → fits k ≡ true → fits (plus c k) ≡ true → cond (fits k && fits (plus c k)) (totals n u (plus c k) d) none ≡ totals n u (plus c k) d
   added c k d f g = rw (f, g)
 
-  runs-totals : {c e : Counts} {d : List Component} → Runs n u c d e → totals n u c d ≡ some e
+  pub runs-totals : {c e : Counts} {d : List Component} → Runs n u c d e → totals n u c d ≡ some e
   unfolding totals
   runs-totals done = refl
   runs-totals (add {c} {p = p} {d} {v} A f g r) = rw (gives-value p A) (added c (contribution n (unitFor u p) v) d f g ∙ runs-totals r)
 
-  totals-runs : (c e : Counts) {d : List Component} → Amounts n d → totals n u c d ≡ some e → Runs n u c d e
+  pub totals-runs : (c e : Counts) {d : List Component} → Amounts n d → totals n u c d ≡ some e → Runs n u c d e
   unfolding totals
   totals-runs c e no-more h = let q : c ≡ e = cc in rw q done
   totals-runs c e (one-more {p} {d} {v} A M) h =

@@ -12,7 +12,7 @@ put-day-time-requires c κs = search needs
 returns : tie.Need-returns
 returns c =
     let r = c .before .before .before .before .parse-interval-day-time .ensures in
-    rw (r .0, r .1 .1) at (c .put-day-time .ensures)
+    rw (r .0, r .1 .1 .0) at (c .put-day-time .ensures)
 
 pub cullpethi-parse-interval-day-time-spec : {M : Type 1} → statement M
 cullpethi-parse-interval-day-time-spec =

@@ -12,7 +12,7 @@ put-interval-requires c κs = search needs
 returns : tie.Need-returns
 returns c =
     let r = c .before .before .before .before .before .parse-interval-month-day-nano .ensures in
-    rw (r .0, r .1 .1) at (c .put-interval .ensures)
+    rw (r .0, r .1 .1 .0) at (c .put-interval .ensures)
 
 pub cullpethi-parse-interval-month-day-nano-spec : {M : Type 1} → statement M
 cullpethi-parse-interval-month-day-nano-spec =

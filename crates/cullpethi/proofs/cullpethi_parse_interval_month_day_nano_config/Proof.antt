@@ -39,7 +39,7 @@ returns c =
     let a = m .before .before .args in
     let r = p .parse-interval-month-day-nano-config .ensures in
     let e = sym (ap unitRead (x .unit .given .1)) ∙ m .unit-numbered .ensures in
-    rw (in-unit (a .text .now) (r .0) (w .new .ensures) e, place-in-unit (a .text .now) (r .1 .1) (w .new .ensures) e) at (c .put-interval .ensures)
+    rw (in-unit (a .text .now) (r .0) (w .new .ensures) e, place-in-unit (a .text .now) (r .1 .1 .0) (w .new .ensures) e) at (c .put-interval .ensures)
 
 returns-2 : tie.Need-returns-2
 returns-2 c =

@@ -12,7 +12,7 @@ put-months-requires c κs = search needs
 returns : tie.Need-returns
 returns c =
     let r = c .before .before .before .parse-interval-year-month .ensures in
-    rw (r .0, r .1 .1) at (c .put-months .ensures)
+    rw (r .0, r .1 .1 .0) at (c .put-months .ensures)
 
 pub cullpethi-parse-interval-year-month-spec : {M : Type 1} → statement M
 cullpethi-parse-interval-year-month-spec =
