@@ -42,7 +42,7 @@ pub fn of(reader: Reader, text: &[u8], n: usize, out: &mut [u8]) -> Shown {
         Reader::Date64 => millis(Date64Type::parse(text), n, out),
         Reader::Interval => show::interval(parse_interval_month_day_nano(text), n, out),
         Reader::IntervalIn(unit) => show::interval(interval_in(unit, text), n, out),
-        Reader::IntervalYearMonth => months(parse_interval_year_month(text), n, out),
+        Reader::IntervalYearMonth => show::months(parse_interval_year_month(text), n, out),
         Reader::IntervalDayTime => show::day_time(parse_interval_day_time(text), n, out),
     }
 }
@@ -77,8 +77,4 @@ fn seconds32(r: Read32, n: usize, out: &mut [u8]) -> Shown {
 
 fn days(r: Read32, n: usize, out: &mut [u8]) -> Shown {
     show::read32(r, b" days", n, out)
-}
-
-fn months(r: Read32, n: usize, out: &mut [u8]) -> Shown {
-    show::read32(r, b" months", n, out)
 }

@@ -2,11 +2,13 @@
 use crate::Asked;
 use crate::FAILED;
 use crate::READ;
+use crate::caret;
 use crate::output;
 use crate::show;
 use crate::show::Shown;
 use lines::Taken;
 use lines::input::take_line;
+use place::MaybePlace;
 
 // From so many bytes on answers are written: the room has 65,536, and no answer has 512.
 const MANY: usize = 65024;
@@ -98,13 +100,38 @@ fn one(asked: Asked, mut held: Held, taken: Taken, line: &[u8], out: &mut [u8]) 
 fn answered(asked: Asked, held: Held, n: usize, line: &[u8], out: &mut [u8]) -> Held {
     let number = next_number(held.lines);
     let shown = shown(asked, number, n, line, held.answers, out);
-    Held {
+    let next = Held {
         n: 0,
         answers: shown.n,
         lines: number,
         status: worse(held.status, shown.status),
         more: true,
+    };
+    let refused_at = shown.place;
+    match refused_at {
+        MaybePlace::Some(place) => {
+            if asked.caret {
+                return pointed(next, n, line, place, out);
+            }
+            next
+        }
+        MaybePlace::None => next,
     }
+}
+
+// Writes the answers that are held, and below the last of them its text with a caret.
+fn pointed(held: Held, n: usize, line: &[u8], place: usize, out: &[u8]) -> Held {
+    let after = written(held, out);
+    if !after.more {
+        return after;
+    }
+    if line.len() < n {
+        return after;
+    }
+    if caret::below(&line[..n], place) {
+        return after;
+    }
+    after.stopped(FAILED)
 }
 
 fn shown(asked: Asked, number: u64, n: usize, line: &[u8], at: usize, out: &mut [u8]) -> Shown {

@@ -2,9 +2,11 @@
 // A program has no exit status of its own, so behind `--status` it is written to descriptor 3, for the script that starts it.
 use names::Named;
 use names::Reader;
+use place::MaybePlace;
 use words::Words;
 
 mod answer;
+mod caret;
 mod help;
 mod input;
 mod names;
@@ -26,6 +28,8 @@ pub struct Asked {
     pub reader: Reader,
     // Whether the line's number goes in front.
     pub number: bool,
+    // Whether a text that is refused at a place is shown with a caret below it.
+    pub caret: bool,
 }
 
 fn main() {
@@ -67,6 +71,7 @@ fn with_reader(words: Words, reader: Reader) -> u8 {
     let asked = Asked {
         reader: words.with_default(reader),
         number: words.number,
+        caret: libc::isatty(1) == 1,
     };
     if words.text == 0 {
         return input::each(asked);
@@ -81,8 +86,19 @@ fn one_text(at: usize, asked: Asked) -> u8 {
     let whole = os::errno() == 0;
     let mut out = io::buffer();
     let shown = show::line(asked, 1, &space[..n], whole, 0, &mut out);
-    if output::written(shown.n, &out) {
-        return shown.status;
+    if !output::written(shown.n, &out) {
+        return FAILED;
+    }
+    let refused_at = shown.place;
+    match refused_at {
+        MaybePlace::Some(place) => shown_below(&space[..n], place, shown.status),
+        MaybePlace::None => shown.status,
+    }
+}
+
+fn shown_below(text: &[u8], place: usize, status: u8) -> u8 {
+    if caret::below(text, place) {
+        return status;
     }
     FAILED
 }

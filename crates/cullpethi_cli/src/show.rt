@@ -4,6 +4,9 @@ use crate::READ;
 use crate::REFUSED;
 use crate::answer;
 use interval::DayTimeRead;
+use interval::YearMonthRead;
+use place::IntervalRefusal;
+use place::MaybePlace;
 use refusal::Read32;
 use refusal::Read64;
 use refusal::Refusal;
@@ -13,10 +16,11 @@ use room::put_signed;
 use room::put_signed32;
 use total::IntervalRead;
 
-// How many bytes there are, and the status.
+// How many bytes there are, the status, and where the text was refused, if that is told.
 pub struct Shown {
     pub n: usize,
     pub status: u8,
+    pub place: MaybePlace,
 }
 
 // The line that answers a text, or says that it is not there whole; its number in front, if asked.
@@ -31,9 +35,11 @@ pub fn line(
     let start = numbered(asked.number, number, n, out);
     let shown = text_or_too_long(asked, text, whole, start, out);
     let n = put(b"\n", shown.n, out);
+    let place = shown.place;
     Shown {
         n,
         status: shown.status,
+        place,
     }
 }
 
@@ -54,6 +60,7 @@ fn text_or_too_long(asked: Asked, text: &[u8], whole: bool, n: usize, out: &mut 
     Shown {
         n: put(b"not read: longer than 65536 bytes", n, out),
         status: REFUSED,
+        place: MaybePlace::None,
     }
 }
 
@@ -66,9 +73,11 @@ fn with_carriage_return(shown: Shown, text: &[u8], out: &mut [u8]) -> Shown {
         return shown;
     }
     if text[text.len() - 1] == b'\r' {
+        let place = shown.place;
         return Shown {
             n: put(b" (the text ends in a carriage return)", shown.n, out),
             status: REFUSED,
+            place,
         };
     }
     shown
@@ -79,6 +88,7 @@ fn read(unit: &[u8], n: usize, out: &mut [u8]) -> Shown {
     Shown {
         n: put(unit, n, out),
         status: READ,
+        place: MaybePlace::None,
     }
 }
 
@@ -102,6 +112,16 @@ pub fn read32(r: Read32, unit: &[u8], n: usize, out: &mut [u8]) -> Shown {
     }
 }
 
+pub fn months(r: YearMonthRead, n: usize, out: &mut [u8]) -> Shown {
+    match r {
+        YearMonthRead::Value(x) => {
+            let digits = put_signed32(x.0, n, out);
+            read(b" months", digits, out)
+        }
+        YearMonthRead::Refused(why) => refused_at(why, n, out),
+    }
+}
+
 pub fn interval(r: IntervalRead, n: usize, out: &mut [u8]) -> Shown {
     match r {
         IntervalRead::Value(x) => {
@@ -109,7 +129,7 @@ pub fn interval(r: IntervalRead, n: usize, out: &mut [u8]) -> Shown {
             let nanos = put_signed(x.nanos.0, days, out);
             read(b" nanoseconds", nanos, out)
         }
-        IntervalRead::Refused(why) => refused(why, n, out),
+        IntervalRead::Refused(why) => refused_at(why, n, out),
     }
 }
 
@@ -128,7 +148,7 @@ pub fn day_time(r: DayTimeRead, n: usize, out: &mut [u8]) -> Shown {
             let millis = put_signed32(x.millis.0, days, out);
             read(b" milliseconds", millis, out)
         }
-        DayTimeRead::Refused(why) => refused(why, n, out),
+        DayTimeRead::Refused(why) => refused_at(why, n, out),
     }
 }
 
@@ -137,6 +157,23 @@ fn refused(why: Refusal, n: usize, out: &mut [u8]) -> Shown {
     Shown {
         n: refusal(why, refused, out),
         status: REFUSED,
+        place: MaybePlace::None,
+    }
+}
+
+// The same with the place behind it, where there is one.
+fn refused_at(why: IntervalRefusal, n: usize, out: &mut [u8]) -> Shown {
+    let shown = refused(why.refusal(), n, out);
+    match why.place() {
+        MaybePlace::Some(place) => {
+            let at = put(b", at byte ", shown.n, out);
+            Shown {
+                n: put_number(place as u64, at, out),
+                status: REFUSED,
+                place: MaybePlace::Some(place),
+            }
+        }
+        MaybePlace::None => shown,
     }
 }
 
