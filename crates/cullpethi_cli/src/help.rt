@@ -203,7 +203,8 @@ fn units(n: usize, out: &mut [u8]) -> usize {
 
 fn refusals(n: usize, out: &mut [u8]) -> usize {
     let n = put(
-        b"\nA text that is refused has no value, but a number and what it means:\n",
+        b"\nA text that is refused has no value, but a number and what it means; 8, 9 and 10 tell the byte of the text, from 0, where that
+begins, and a text that was an argument, or whose answer goes to a terminal, is shown with a caret below that place:\n",
         n,
         out,
     );
