@@ -1,9 +1,10 @@
 /* Readers of dates, times of day, timestamps and intervals, proved in Rattle. Link with libcullpethi.a.
  *
- * Each function returns CULLPETHI_OK and writes its cells, or returns a refusal's number and leaves every cell as it was. A text is `len`
- * bytes at `text`: it needs no end mark, and is neither altered nor read past its end. Where `len` is 0, `text` may be any pointer but
- * NULL. Each cell is aligned, and apart from the other cells and from the text. A call touches no other memory of the caller, keeps
- * nothing and allocates nothing, so any number of threads may call.
+ * Each function returns CULLPETHI_OK and writes its cells, or returns a refusal's number and leaves every cell as it was, but for the one
+ * that tells where: `place` of an interval, `index` of a column. That one is written exactly with the refusals that the function's comment
+ * names, and is not stored to otherwise. A text is `len` bytes at `text`: it needs no end mark, and is neither altered nor read past its
+ * end. Where `len` is 0, `text` may be any pointer but NULL. Each cell is aligned, and apart from the other cells and from the text. A call
+ * touches no other memory of the caller, keeps nothing and allocates nothing, so any number of threads may call.
  */
 #ifndef CULLPETHI_H
 #define CULLPETHI_H
@@ -104,18 +105,33 @@ uint8_t cullpethi_parse_time32_second(const uint8_t *text, size_t len, int32_t *
 /* A date column in days since 1970-01-01: the day of a date or of a stamp, as given or trimmed. */
 uint8_t cullpethi_parse_date32(const uint8_t *text, size_t len, int32_t *days);
 
-/* An interval in months, where it has no days and no nanoseconds; years are the default unit. */
-uint8_t cullpethi_parse_interval_year_month(const uint8_t *text, size_t len, int32_t *months);
+/* The four readers of intervals have a cell `place`: where in the text a refusal is, as a number of bytes from 0 to `len`.
+ *
+ * A text is split at each White_Space character of Unicode, empty words included. A word with a character other than 0 to 9, point and
+ * minus is an amount and a unit, parted before the first such character. Any other word is an amount, and its unit is the next word, or
+ * there is none if it is the last. An amount and its unit are a component, which begins where its amount does.
+ *
+ * CULLPETHI_INTERVAL: where the first piece begins that is no amount or no unit, components from the left, the amount before its unit:
+ * 0 in `1-2 days`, 2 in `1  day`, 6 in `1 day x`, whose second amount is empty.
+ * CULLPETHI_REPEATED_UNIT: where the first component begins whose unit came before: 6 in `1 day 2 days 3 d`.
+ * CULLPETHI_OVERFLOW: where the component begins whose contribution or running total first does not fit: 18 in `2147483647 months 1 year`.
+ * Any other number: `place` is not stored to. With a refusal no other cell is stored to, not even during the call.
+ */
 
-/* An interval in days, 30 to a month, and milliseconds; days are the default unit. */
-uint8_t cullpethi_parse_interval_day_time(const uint8_t *text, size_t len, int32_t *days, int32_t *millis);
+/* An interval in months, where it has no days and no nanoseconds; years are the default unit. `place` is written with CULLPETHI_INTERVAL,
+ * CULLPETHI_REPEATED_UNIT and CULLPETHI_OVERFLOW, and is not stored to otherwise. */
+uint8_t cullpethi_parse_interval_year_month(const uint8_t *text, size_t len, int32_t *months, size_t *place);
 
-/* An interval in months, days and nanoseconds; months are the default unit. */
-uint8_t cullpethi_parse_interval_month_day_nano(const uint8_t *text, size_t len, int32_t *months, int32_t *days, int64_t *nanos);
+/* An interval in days, 30 to a month, and milliseconds; days are the default unit. `place` is written with the same numbers. */
+uint8_t cullpethi_parse_interval_day_time(const uint8_t *text, size_t len, int32_t *days, int32_t *millis, size_t *place);
 
-/* The same with a default unit of cullpethi_unit. */
+/* An interval in months, days and nanoseconds; months are the default unit. `place` is written with the same numbers. */
+uint8_t cullpethi_parse_interval_month_day_nano(const uint8_t *text, size_t len, int32_t *months, int32_t *days, int64_t *nanos,
+                                                size_t *place);
+
+/* The same with a default unit of cullpethi_unit. `place` is written with the same numbers, so not with CULLPETHI_NO_UNIT. */
 uint8_t cullpethi_parse_interval_month_day_nano_config(const uint8_t *text, size_t len, uint8_t default_unit, int32_t *months,
-                                                       int32_t *days, int64_t *nanos);
+                                                       int32_t *days, int64_t *nanos, size_t *place);
 
 /* A whole column of cullpethi_column. The texts lie end to end in `texts_len` bytes at `texts`: text i is the bytes from the end before it,
  * ends[i - 1], 0 for the first, up to ends[i]. There are `ends_len` of them, and `cells_len` cells; a value of 32 bits keeps its number.

@@ -26,6 +26,7 @@ static void column(int number) {
 static void run(void) {
     int32_t a, b;
     int64_t c;
+    size_t place;
     switch (which) {
     case 0: cullpethi_string_to_timestamp_nanos(text, length, &c); break;
     case 1: cullpethi_string_to_time_nanoseconds(text, length, &c); break;
@@ -40,10 +41,10 @@ static void run(void) {
     case 10: cullpethi_parse_time32_millisecond(text, length, &a); break;
     case 11: cullpethi_parse_time32_second(text, length, &a); break;
     case 12: cullpethi_parse_date32(text, length, &a); break;
-    case 13: cullpethi_parse_interval_year_month(text, length, &a); break;
-    case 14: cullpethi_parse_interval_day_time(text, length, &a, &b); break;
-    case 15: cullpethi_parse_interval_month_day_nano(text, length, &a, &b, &c); break;
-    case 16: cullpethi_parse_interval_month_day_nano_config(text, length, CULLPETHI_HOUR, &a, &b, &c); break;
+    case 13: cullpethi_parse_interval_year_month(text, length, &a, &place); break;
+    case 14: cullpethi_parse_interval_day_time(text, length, &a, &b, &place); break;
+    case 15: cullpethi_parse_interval_month_day_nano(text, length, &a, &b, &c, &place); break;
+    case 16: cullpethi_parse_interval_month_day_nano_config(text, length, CULLPETHI_HOUR, &a, &b, &c, &place); break;
     default: /* a column of one text, or what a call of nothing takes */
         if (which >= 17) column(which - 17);
         break;
@@ -73,7 +74,8 @@ int main(void) {
         "+2020-09-08", "-5877641-06-23", "2020-09-08T13:42:29+01:00", "2016-12-31T23:59:60Z", "2020-02-30", "\xC3\xA9\xE2\x84\xAA\xF0\x9F\x98\x80",
         "\xFF\xFF\xFF\xFF\xFF\xFF\xFF\xFF\xFF\xFF\xFF", "09:26:56.123456789123 AM", " 6:00 pm ", "23:59:60", "1234", "-9223372036854775808",
         "1 day", "1.5 months -.5 days", "1 century 2 decades 3 years 4 mons 5 weeks 6 days 7 hours 8 mins 9.123456789012345 secs 1 ms 2 us 3 nanoseconds",
-        "1 day 1 d", "99999999999 years", "1 wee\xE2\x84\xAA", "1\xE3\x80\x80" "day", "9223372036854775808 nanoseconds",
+        "1 day 1 d", "1 day 2 hours 3 DAYS 4 hours", "1 day 2147483647 months 1 year -1 decade", "1\xE3\x80\x80" "day 1-2 days", "1 day x",
+        "99999999999 years", "1 wee\xE2\x84\xAA", "1\xE3\x80\x80" "day", "9223372036854775808 nanoseconds",
     };
     stack = malloc(ROOM);
     if (stack == NULL) return 2;

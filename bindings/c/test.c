@@ -21,9 +21,14 @@ struct narrow {
     int32_t before, cell, after;
 };
 
+struct size {
+    size_t before, cell, after;
+};
+
 struct cells {
     struct narrow a, b;
     struct wide c;
+    struct size place;
 };
 
 /* Two marks, so that a cell that was written cannot pass for one that was kept. */
@@ -31,12 +36,13 @@ static const uint8_t marks[2] = {0x5A, 0xA5};
 
 typedef uint8_t call(const uint8_t *text, size_t len, uint8_t unit, struct cells *cells);
 
-/* What is expected in the three cells; a cell that the function does not have keeps its mark. */
+/* What is expected in the cells; a cell that the function does not have keeps its mark, and `place` does but with 8, 9 and 10. */
 struct expected {
     uint8_t status;
     int uses; /* bit 0: cell a, bit 1: cell b, bit 2: cell c */
     int32_t a, b;
     int64_t c;
+    size_t place;
 };
 
 #define WIDE(name) \
@@ -63,23 +69,32 @@ WIDE(parse_date64)
 NARROW(parse_time32_millisecond)
 NARROW(parse_time32_second)
 NARROW(parse_date32)
-NARROW(parse_interval_year_month)
+
+static uint8_t call_parse_interval_year_month(const uint8_t *text, size_t len, uint8_t unit, struct cells *cells) {
+    (void)unit;
+    return cullpethi_parse_interval_year_month(text, len, &cells->a.cell, &cells->place.cell);
+}
 
 static uint8_t call_parse_interval_day_time(const uint8_t *text, size_t len, uint8_t unit, struct cells *cells) {
     (void)unit;
-    return cullpethi_parse_interval_day_time(text, len, &cells->a.cell, &cells->b.cell);
+    return cullpethi_parse_interval_day_time(text, len, &cells->a.cell, &cells->b.cell, &cells->place.cell);
 }
 
 static uint8_t call_parse_interval_month_day_nano(const uint8_t *text, size_t len, uint8_t unit, struct cells *cells) {
     (void)unit;
-    return cullpethi_parse_interval_month_day_nano(text, len, &cells->a.cell, &cells->b.cell, &cells->c.cell);
+    return cullpethi_parse_interval_month_day_nano(text, len, &cells->a.cell, &cells->b.cell, &cells->c.cell, &cells->place.cell);
 }
 
 static uint8_t call_parse_interval_month_day_nano_config(const uint8_t *text, size_t len, uint8_t unit, struct cells *cells) {
-    return cullpethi_parse_interval_month_day_nano_config(text, len, unit, &cells->a.cell, &cells->b.cell, &cells->c.cell);
+    return cullpethi_parse_interval_month_day_nano_config(text, len, unit, &cells->a.cell, &cells->b.cell, &cells->c.cell,
+                                                          &cells->place.cell);
 }
 
-/* One call at one place, with one mark. */
+static int has_place(uint8_t status) {
+    return status == CULLPETHI_INTERVAL || status == CULLPETHI_REPEATED_UNIT || status == CULLPETHI_OVERFLOW;
+}
+
+/* One call with the text at one end of its page, and with one mark. */
 static int holds(call *f, const uint8_t *at, const char *text, size_t len, uint8_t unit, uint8_t mark, const struct expected *e) {
     struct cells cells, want;
     memset(&cells, mark, sizeof cells);
@@ -89,6 +104,7 @@ static int holds(call *f, const uint8_t *at, const char *text, size_t len, uint8
         if (e->uses & 2) want.b.cell = e->b;
         if (e->uses & 4) want.c.cell = e->c;
     }
+    if (has_place(e->status)) want.place.cell = e->place;
     uint8_t status = f(at, len, unit, &cells);
     return status == e->status && memcmp(&cells, &want, sizeof cells) == 0 && memcmp(at, text, len) == 0;
 }
@@ -112,9 +128,10 @@ static void expect(const char *name, call *f, const char *text, size_t len, uint
 }
 
 #define EXPECT(name, text, unit, ...) expect(#name, call_##name, text, sizeof(text) - 1, unit, (struct expected){__VA_ARGS__})
-#define IS64(name, text, value) EXPECT(name, text, 0, CULLPETHI_OK, 4, 0, 0, value)
-#define IS32(name, text, value) EXPECT(name, text, 0, CULLPETHI_OK, 1, value, 0, 0)
-#define REFUSED(name, text, status) EXPECT(name, text, 0, status, 0, 0, 0, 0)
+#define IS64(name, text, value) EXPECT(name, text, 0, CULLPETHI_OK, 4, 0, 0, value, 0)
+#define IS32(name, text, value) EXPECT(name, text, 0, CULLPETHI_OK, 1, value, 0, 0, 0)
+#define REFUSED(name, text, status) EXPECT(name, text, 0, status, 0, 0, 0, 0, 0)
+#define REFUSED_AT(name, text, status, place) EXPECT(name, text, 0, status, 0, 0, 0, 0, place)
 
 static void stamps(void) {
     IS64(string_to_timestamp_nanos, "2020-09-08T13:42:29.190855Z", 1599572549190855000);
@@ -171,38 +188,109 @@ static void intervals(void) {
     IS32(parse_interval_year_month, "5", 60);
     IS32(parse_interval_year_month, "-1 year 1 month", -11);
     REFUSED(parse_interval_year_month, "1 week", CULLPETHI_NARROWED);
-    REFUSED(parse_interval_year_month, "178956971 years", CULLPETHI_OVERFLOW);
-    EXPECT(parse_interval_day_time, "1.5", 0, CULLPETHI_OK, 3, 1, 43200000, 0);
-    EXPECT(parse_interval_day_time, "-1 month 1 day", 0, CULLPETHI_OK, 3, -29, 0, 0);
-    EXPECT(parse_interval_day_time, "71582788 months 7 days", 0, CULLPETHI_OK, 3, INT32_MAX, 0, 0);
+    REFUSED(parse_interval_year_month, "1 year 2 days", CULLPETHI_NARROWED);
+    REFUSED_AT(parse_interval_year_month, "178956971 years", CULLPETHI_OVERFLOW, 0);
+    EXPECT(parse_interval_day_time, "1.5", 0, CULLPETHI_OK, 3, 1, 43200000, 0, 0);
+    EXPECT(parse_interval_day_time, "-1 month 1 day", 0, CULLPETHI_OK, 3, -29, 0, 0, 0);
+    EXPECT(parse_interval_day_time, "71582788 months 7 days", 0, CULLPETHI_OK, 3, INT32_MAX, 0, 0, 0);
     REFUSED(parse_interval_day_time, "71582788 months 8 days", CULLPETHI_NARROWED);
-    REFUSED(parse_interval_day_time, "1 day 1 day", CULLPETHI_REPEATED_UNIT);
-    EXPECT(parse_interval_month_day_nano, "1.5 months", 0, CULLPETHI_OK, 7, 1, 15, 0);
-    EXPECT(parse_interval_month_day_nano, "-.5 days", 0, CULLPETHI_OK, 7, 0, 0, -43200000000000);
-    EXPECT(parse_interval_month_day_nano, "1 day 2", 0, CULLPETHI_OK, 7, 2, 1, 0);
-    REFUSED(parse_interval_month_day_nano, "", CULLPETHI_INTERVAL);
-    REFUSED(parse_interval_month_day_nano, "1  day", CULLPETHI_INTERVAL);
-    REFUSED(parse_interval_month_day_nano, "\x80", CULLPETHI_NOT_UTF8);
-    REFUSED(parse_interval_month_day_nano, "9223372036854775807 us", CULLPETHI_OVERFLOW);
+    REFUSED(parse_interval_day_time, "71582789 months -23 days", CULLPETHI_NARROWED);
+    EXPECT(parse_interval_month_day_nano, "1.5 months", 0, CULLPETHI_OK, 7, 1, 15, 0, 0);
+    EXPECT(parse_interval_month_day_nano, "-.5 days", 0, CULLPETHI_OK, 7, 0, 0, -43200000000000, 0);
+    EXPECT(parse_interval_month_day_nano, "1 day 2", 0, CULLPETHI_OK, 7, 2, 1, 0, 0);
+    EXPECT(parse_interval_month_day_nano, "306783378 weeks -2 days 0.1 months", 0, CULLPETHI_OK, 7, 0, INT32_MAX, 0, 0);
+    REFUSED_AT(parse_interval_month_day_nano, "9223372036854775807 us", CULLPETHI_OVERFLOW, 0);
 }
 
 /* -1.5 in each default unit, and every number that is no unit's. */
 static void units(void) {
-    EXPECT(parse_interval_month_day_nano_config, "-1.5", CULLPETHI_CENTURY, CULLPETHI_OK, 7, -1800, 0, 0);
-    EXPECT(parse_interval_month_day_nano_config, "-1.5", CULLPETHI_DECADE, CULLPETHI_OK, 7, -180, 0, 0);
-    EXPECT(parse_interval_month_day_nano_config, "-1.5", CULLPETHI_YEAR, CULLPETHI_OK, 7, -18, 0, 0);
-    EXPECT(parse_interval_month_day_nano_config, "-1.5", CULLPETHI_MONTH, CULLPETHI_OK, 7, -1, -15, 0);
-    EXPECT(parse_interval_month_day_nano_config, "-1.5", CULLPETHI_WEEK, CULLPETHI_OK, 7, 0, -7, -302400000000000);
-    EXPECT(parse_interval_month_day_nano_config, "-1.5", CULLPETHI_DAY, CULLPETHI_OK, 7, 0, -1, -43200000000000);
-    EXPECT(parse_interval_month_day_nano_config, "-1.5", CULLPETHI_HOUR, CULLPETHI_OK, 7, 0, 0, -5400000000000);
-    EXPECT(parse_interval_month_day_nano_config, "-1.5", CULLPETHI_MINUTE, CULLPETHI_OK, 7, 0, 0, -90000000000);
-    EXPECT(parse_interval_month_day_nano_config, "-1.5", CULLPETHI_SECOND, CULLPETHI_OK, 7, 0, 0, -1500000000);
-    EXPECT(parse_interval_month_day_nano_config, "-1.5", CULLPETHI_MILLISECOND, CULLPETHI_OK, 7, 0, 0, -1500000);
-    EXPECT(parse_interval_month_day_nano_config, "-1.5", CULLPETHI_MICROSECOND, CULLPETHI_OK, 7, 0, 0, -1500);
-    EXPECT(parse_interval_month_day_nano_config, "-1.5", CULLPETHI_NANOSECOND, CULLPETHI_OK, 7, 0, 0, -1);
-    EXPECT(parse_interval_month_day_nano_config, "1 d 2", CULLPETHI_DAY, CULLPETHI_REPEATED_UNIT, 0, 0, 0, 0);
-    for (int unit = CULLPETHI_NANOSECOND + 1; unit < 256; unit++)
-        EXPECT(parse_interval_month_day_nano_config, "1", (uint8_t)unit, CULLPETHI_NO_UNIT, 0, 0, 0, 0);
+    EXPECT(parse_interval_month_day_nano_config, "-1.5", CULLPETHI_CENTURY, CULLPETHI_OK, 7, -1800, 0, 0, 0);
+    EXPECT(parse_interval_month_day_nano_config, "-1.5", CULLPETHI_DECADE, CULLPETHI_OK, 7, -180, 0, 0, 0);
+    EXPECT(parse_interval_month_day_nano_config, "-1.5", CULLPETHI_YEAR, CULLPETHI_OK, 7, -18, 0, 0, 0);
+    EXPECT(parse_interval_month_day_nano_config, "-1.5", CULLPETHI_MONTH, CULLPETHI_OK, 7, -1, -15, 0, 0);
+    EXPECT(parse_interval_month_day_nano_config, "-1.5", CULLPETHI_WEEK, CULLPETHI_OK, 7, 0, -7, -302400000000000, 0);
+    EXPECT(parse_interval_month_day_nano_config, "-1.5", CULLPETHI_DAY, CULLPETHI_OK, 7, 0, -1, -43200000000000, 0);
+    EXPECT(parse_interval_month_day_nano_config, "-1.5", CULLPETHI_HOUR, CULLPETHI_OK, 7, 0, 0, -5400000000000, 0);
+    EXPECT(parse_interval_month_day_nano_config, "-1.5", CULLPETHI_MINUTE, CULLPETHI_OK, 7, 0, 0, -90000000000, 0);
+    EXPECT(parse_interval_month_day_nano_config, "-1.5", CULLPETHI_SECOND, CULLPETHI_OK, 7, 0, 0, -1500000000, 0);
+    EXPECT(parse_interval_month_day_nano_config, "-1.5", CULLPETHI_MILLISECOND, CULLPETHI_OK, 7, 0, 0, -1500000, 0);
+    EXPECT(parse_interval_month_day_nano_config, "-1.5", CULLPETHI_MICROSECOND, CULLPETHI_OK, 7, 0, 0, -1500, 0);
+    EXPECT(parse_interval_month_day_nano_config, "-1.5", CULLPETHI_NANOSECOND, CULLPETHI_OK, 7, 0, 0, -1, 0);
+    /* also where the text would be refused at a place */
+    for (int unit = CULLPETHI_NANOSECOND + 1; unit < 256; unit++) {
+        EXPECT(parse_interval_month_day_nano_config, "1", (uint8_t)unit, CULLPETHI_NO_UNIT, 0, 0, 0, 0, 0);
+        EXPECT(parse_interval_month_day_nano_config, "1 day x", (uint8_t)unit, CULLPETHI_NO_UNIT, 0, 0, 0, 0, 0);
+    }
+}
+
+/* A text that the four calls refuse with the same number at the same place, the last with each default unit. */
+#define ALL_REFUSE(text, status, place) \
+    REFUSED_AT(parse_interval_year_month, text, status, place); \
+    REFUSED_AT(parse_interval_day_time, text, status, place); \
+    REFUSED_AT(parse_interval_month_day_nano, text, status, place); \
+    for (uint8_t unit = CULLPETHI_CENTURY; unit <= CULLPETHI_NANOSECOND; unit++) \
+        EXPECT(parse_interval_month_day_nano_config, text, unit, status, 0, 0, 0, 0, place)
+
+/* The first piece that is no amount or no unit. */
+static void bad_pieces(void) {
+    ALL_REFUSE("1-2 days", CULLPETHI_INTERVAL, 0);
+    ALL_REFUSE("1 2day", CULLPETHI_INTERVAL, 2);
+    ALL_REFUSE("1day2", CULLPETHI_INTERVAL, 1);
+    ALL_REFUSE("1  day", CULLPETHI_INTERVAL, 2);
+    ALL_REFUSE("1 ", CULLPETHI_INTERVAL, 2);
+    ALL_REFUSE("1 day ", CULLPETHI_INTERVAL, 6);
+    ALL_REFUSE("+1 day", CULLPETHI_INTERVAL, 0);
+    ALL_REFUSE("", CULLPETHI_INTERVAL, 0);
+    ALL_REFUSE("1 day x", CULLPETHI_INTERVAL, 6);
+    ALL_REFUSE("1.5x", CULLPETHI_INTERVAL, 3);
+    ALL_REFUSE("5 5", CULLPETHI_INTERVAL, 2);
+    ALL_REFUSE("1 day 5 5", CULLPETHI_INTERVAL, 8);
+    ALL_REFUSE("1 day -1.5x 2 dayz", CULLPETHI_INTERVAL, 10);
+    ALL_REFUSE("1 day --1x", CULLPETHI_INTERVAL, 6);
+    /* white space of 3 and of 2 bytes, U+212A */
+    ALL_REFUSE("1\u3000day\u20032 weeKs 3 \u212A", CULLPETHI_INTERVAL, 20);
+    ALL_REFUSE("1 wee\u212A 2 \u00A0days", CULLPETHI_INTERVAL, 11);
+    /* 16 digits; 8 before 9, however late, and to the end of the text */
+    ALL_REFUSE("1 day 2 hours 0.1234567890123456 days", CULLPETHI_INTERVAL, 14);
+    ALL_REFUSE("1 day 1 day 1 day 2 dayz", CULLPETHI_INTERVAL, 20);
+    ALL_REFUSE("1c 1dec 1y 1mon 1w 1d 1h 1m 1s 1ms 1us 1nanosecond 1c 1dec 1q", CULLPETHI_INTERVAL, 60);
+    /* no place */
+    ALL_REFUSE("\x80", CULLPETHI_NOT_UTF8, 0);
+    ALL_REFUSE("1 day \xFF", CULLPETHI_NOT_UTF8, 0);
+    ALL_REFUSE("1 day 1 day 1 \xED\xA0\x80", CULLPETHI_NOT_UTF8, 0);
+}
+
+/* The first component whose unit came before. */
+static void repeats(void) {
+    ALL_REFUSE("1 day 1 day", CULLPETHI_REPEATED_UNIT, 6);
+    ALL_REFUSE("1 day 2 days 3 d", CULLPETHI_REPEATED_UNIT, 6);
+    ALL_REFUSE("1 day 2 hours 3 DAYS 4 hours", CULLPETHI_REPEATED_UNIT, 14);
+    ALL_REFUSE("1 day 99999999999999 years 2 days", CULLPETHI_REPEATED_UNIT, 27);
+    ALL_REFUSE("1 day 2147483647 months 1 year -99999999999 days", CULLPETHI_REPEATED_UNIT, 31);
+    ALL_REFUSE("1c 1dec 1y 1mon 1w 1d 1h 1m 1s 1ms 1us 1nanosecond 1c", CULLPETHI_REPEATED_UNIT, 51);
+    ALL_REFUSE("1\u3000wee\u212A\u20032 weeks", CULLPETHI_REPEATED_UNIT, 13);
+    /* the default unit repeats */
+    REFUSED_AT(parse_interval_year_month, "1 year 2", CULLPETHI_REPEATED_UNIT, 7);
+    REFUSED_AT(parse_interval_day_time, "1 d 1 h 2", CULLPETHI_REPEATED_UNIT, 8);
+    REFUSED_AT(parse_interval_month_day_nano, "1mon 2", CULLPETHI_REPEATED_UNIT, 5);
+    EXPECT(parse_interval_month_day_nano_config, "1 d 2", CULLPETHI_DAY, CULLPETHI_REPEATED_UNIT, 0, 0, 0, 0, 4);
+    EXPECT(parse_interval_month_day_nano_config, "1 day 2 h 3", CULLPETHI_HOUR, CULLPETHI_REPEATED_UNIT, 0, 0, 0, 0, 10);
+}
+
+/* The component whose contribution or running total first does not fit. */
+static void overflows(void) {
+    ALL_REFUSE("2147483647 months 1 year", CULLPETHI_OVERFLOW, 18);
+    ALL_REFUSE("306783378 weeks 0.1 months -2 days", CULLPETHI_OVERFLOW, 16);
+    ALL_REFUSE("1 day 2147483647 months 1 year -1 decade", CULLPETHI_OVERFLOW, 24);
+    ALL_REFUSE("2147483647 days 0.1 months 2147483648 years", CULLPETHI_OVERFLOW, 16);
+    ALL_REFUSE("2147483647 days 1 week 2147483648 months", CULLPETHI_OVERFLOW, 16);
+    ALL_REFUSE("3 mons -9223372036854775808.9 nanoseconds -1us", CULLPETHI_OVERFLOW, 42);
+    ALL_REFUSE("1\u2003day\u3000178956971 years", CULLPETHI_OVERFLOW, 10);
+    /* the default unit does not fit */
+    REFUSED_AT(parse_interval_year_month, "-1 mon 178956971", CULLPETHI_OVERFLOW, 7);
+    REFUSED_AT(parse_interval_day_time, "1 week 2147483641", CULLPETHI_OVERFLOW, 7);
+    REFUSED_AT(parse_interval_month_day_nano, "1 day 2147483648", CULLPETHI_OVERFLOW, 6);
+    EXPECT(parse_interval_month_day_nano_config, "1 day 2 h 9223372037", CULLPETHI_SECOND, CULLPETHI_OVERFLOW, 0, 0, 0, 0, 10);
 }
 
 int main(void) {
@@ -217,6 +305,9 @@ int main(void) {
     columns();
     intervals();
     units();
+    bad_pieces();
+    repeats();
+    overflows();
     printf("%u passed, %u failed\n", passed, failed);
     return failed != 0;
 }

@@ -1,6 +1,5 @@
 //! Intervals: amounts with their units, as in `1 month -2.5 days`.
-use crate::library::{self, one};
-use crate::{IntervalUnit, Refusal, Text};
+use crate::{library, IntervalUnit, Refusal, Text};
 
 /// How [`parse_interval_month_day_nano_config`] reads an interval: with which unit for a last amount that has none.
 ///
@@ -86,95 +85,106 @@ impl From<IntervalMonthDayNano> for MonthDayNano {
     }
 }
 
+/// The cells that a call of the library fills, which gets them and the cell of the place; or its refusal, with that place.
+fn cells<V: Default>(call: impl FnOnce(&mut V, &mut usize) -> u8) -> Result<V, Refusal> {
+    let (mut cells, mut place) = (V::default(), 0);
+    let status = call(&mut cells, &mut place);
+    Refusal::unless_ok_at(status, place)?;
+    Ok(cells)
+}
+
 /// Reads an interval that has no days and no nanoseconds, and gives its months; years are the unit of a last amount that has none.
 ///
-/// Refused with [`NotUtf8`](Refusal::NotUtf8), [`Interval`](Refusal::Interval), [`RepeatedUnit`](Refusal::RepeatedUnit),
-/// [`Overflow`](Refusal::Overflow), or [`Narrowed`](Refusal::Narrowed) where it has days or nanoseconds.
+/// Refused with [`NotUtf8`](Refusal::NotUtf8); [`Interval`](Refusal::Interval), [`RepeatedUnit`](Refusal::RepeatedUnit) or
+/// [`Overflow`](Refusal::Overflow), which tell the place; or [`Narrowed`](Refusal::Narrowed) where it has days or nanoseconds.
 ///
 /// ```
 /// # use cullpethi::*;
 /// assert_eq!(parse_interval_year_month("-1 year 1 month"), Ok(-11));
 /// assert_eq!(parse_interval_year_month("1 week"), Err(Refusal::Narrowed));
+/// assert_eq!(parse_interval_year_month("1 year 2"), Err(Refusal::RepeatedUnit { place: 7 }));
 /// ```
 pub fn parse_interval_year_month<T: Text + ?Sized>(text: &T) -> Result<i32, Refusal> {
-    one(text, library::cullpethi_parse_interval_year_month)
+    let text = text.text_bytes();
+    // SAFETY: the text is lent for the call, and the cells are locals that nothing else refers to.
+    cells(|months, place| unsafe {
+        library::cullpethi_parse_interval_year_month(text.as_ptr(), text.len(), months, place)
+    })
 }
 
 /// Reads an interval, and gives its days, 30 to a month, and milliseconds; days are the unit of a last amount that has none.
 ///
-/// Refused with [`NotUtf8`](Refusal::NotUtf8), [`Interval`](Refusal::Interval), [`RepeatedUnit`](Refusal::RepeatedUnit),
-/// [`Overflow`](Refusal::Overflow), or [`Narrowed`](Refusal::Narrowed) where its nanoseconds are no whole milliseconds, or a count does
-/// not fit 32 bits.
+/// Refused with [`NotUtf8`](Refusal::NotUtf8); [`Interval`](Refusal::Interval), [`RepeatedUnit`](Refusal::RepeatedUnit) or
+/// [`Overflow`](Refusal::Overflow), which tell the place; or [`Narrowed`](Refusal::Narrowed) where its nanoseconds are no whole
+/// milliseconds, or a count does not fit 32 bits.
 ///
 /// ```
 /// # use cullpethi::*;
 /// assert_eq!(parse_interval_day_time("1.5"), Ok(IntervalDayTime::new(1, 43_200_000)));
 /// assert_eq!(parse_interval_day_time("1 us"), Err(Refusal::Narrowed));
+/// assert_eq!(parse_interval_day_time("1 day x"), Err(Refusal::Interval { place: 6 }));
 /// ```
 pub fn parse_interval_day_time<T: Text + ?Sized>(text: &T) -> Result<IntervalDayTime, Refusal> {
     let text = text.text_bytes();
-    let mut r = IntervalDayTime::default();
-    // SAFETY: the text is lent for the call, and the cells are fields of a local that nothing else refers to.
-    let status = unsafe {
+    // SAFETY: as in `parse_interval_year_month`.
+    cells(|r: &mut IntervalDayTime, place| unsafe {
         library::cullpethi_parse_interval_day_time(
             text.as_ptr(),
             text.len(),
             &mut r.days,
             &mut r.milliseconds,
+            place,
         )
-    };
-    Refusal::unless_ok(status)?;
-    Ok(r)
+    })
 }
 
 /// Reads an interval, and gives its months, days and nanoseconds; months are the unit of a last amount that has none.
 ///
-/// Refused with [`NotUtf8`](Refusal::NotUtf8), [`Interval`](Refusal::Interval), [`RepeatedUnit`](Refusal::RepeatedUnit) or
-/// [`Overflow`](Refusal::Overflow).
+/// Refused with [`NotUtf8`](Refusal::NotUtf8); or [`Interval`](Refusal::Interval), [`RepeatedUnit`](Refusal::RepeatedUnit) or
+/// [`Overflow`](Refusal::Overflow), which tell the place.
 ///
 /// ```
 /// # use cullpethi::*;
 /// let r = parse_interval_month_day_nano("1.5 months 1 second");
 /// assert_eq!(r, Ok(IntervalMonthDayNano::new(1, 15, 1_000_000_000)));
-/// assert_eq!(parse_interval_month_day_nano("1 day 1 day"), Err(Refusal::RepeatedUnit));
+/// assert_eq!(parse_interval_month_day_nano("1 day 1 day"), Err(Refusal::RepeatedUnit { place: 6 }));
 /// ```
 pub fn parse_interval_month_day_nano<T: Text + ?Sized>(
     text: &T,
 ) -> Result<IntervalMonthDayNano, Refusal> {
     let text = text.text_bytes();
-    let mut r = IntervalMonthDayNano::default();
-    // SAFETY: as in `parse_interval_day_time`.
-    let status = unsafe {
+    // SAFETY: as in `parse_interval_year_month`.
+    cells(|r: &mut IntervalMonthDayNano, place| unsafe {
         library::cullpethi_parse_interval_month_day_nano(
             text.as_ptr(),
             text.len(),
             &mut r.months,
             &mut r.days,
             &mut r.nanoseconds,
+            place,
         )
-    };
-    Refusal::unless_ok(status)?;
-    Ok(r)
+    })
 }
 
 /// Reads an interval, and gives its months, days and nanoseconds; the unit of a last amount that has none is the caller's.
 ///
-/// Refused with [`NotUtf8`](Refusal::NotUtf8), [`Interval`](Refusal::Interval), [`RepeatedUnit`](Refusal::RepeatedUnit) or
-/// [`Overflow`](Refusal::Overflow).
+/// Refused as by [`parse_interval_month_day_nano`].
 ///
 /// ```
 /// # use cullpethi::*;
-/// let r = parse_interval_month_day_nano_config("1 day 2", IntervalParseConfig::new(IntervalUnit::Hour));
+/// let in_hours = IntervalParseConfig::new(IntervalUnit::Hour);
+/// let r = parse_interval_month_day_nano_config("1 day 2", in_hours);
 /// assert_eq!(r, Ok(IntervalMonthDayNano::new(0, 1, 7_200_000_000_000)));
+/// let r = parse_interval_month_day_nano_config("1 day 2 h 3", in_hours);
+/// assert_eq!(r, Err(Refusal::RepeatedUnit { place: 10 }));
 /// ```
 pub fn parse_interval_month_day_nano_config<T: Text + ?Sized>(
     text: &T,
     config: IntervalParseConfig,
 ) -> Result<IntervalMonthDayNano, Refusal> {
     let text = text.text_bytes();
-    let mut r = IntervalMonthDayNano::default();
-    // SAFETY: as in `parse_interval_day_time`.
-    let status = unsafe {
+    // SAFETY: as in `parse_interval_year_month`.
+    cells(|r: &mut IntervalMonthDayNano, place| unsafe {
         library::cullpethi_parse_interval_month_day_nano_config(
             text.as_ptr(),
             text.len(),
@@ -182,8 +192,7 @@ pub fn parse_interval_month_day_nano_config<T: Text + ?Sized>(
             &mut r.months,
             &mut r.days,
             &mut r.nanoseconds,
+            place,
         )
-    };
-    Refusal::unless_ok(status)?;
-    Ok(r)
+    })
 }

@@ -8,14 +8,15 @@
 //! | an interval, as `1 month -2.5 days` | [`parse_interval_month_day_nano`], [`parse_interval_day_time`], [`parse_interval_year_month`] |
 //! | a whole column of stamps, times or dates | [`parse_column`], [`parse_texts`] |
 //!
-//! Each reader takes a [`Text`], bytes or characters, and gives its value or one [`Refusal`]. The columns of arrow are types with a
-//! `parse` besides, as in arrow-cast: see [`Parser`].
+//! Each reader takes a [`Text`], bytes or characters, and gives its value or one [`Refusal`]. Three refusals of an interval tell where in
+//! the text they lie: see [`Refusal::place`]. The columns of arrow are types with a `parse` besides, as in arrow-cast: see [`Parser`].
 //!
 //! ```
-//! use cullpethi::{string_to_timestamp_nanos, Refusal};
+//! use cullpethi::{parse_interval_day_time, string_to_timestamp_nanos, Refusal};
 //!
 //! assert_eq!(string_to_timestamp_nanos("1970-01-01T00:00:01.5Z"), Ok(1_500_000_000));
 //! assert_eq!(string_to_timestamp_nanos(b"1970-01-01_"), Err(Refusal::Separator));
+//! assert_eq!(parse_interval_day_time("1 day 2 hous"), Err(Refusal::Interval { place: 8 }));
 //! ```
 #![warn(missing_docs)]
 

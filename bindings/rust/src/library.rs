@@ -28,13 +28,18 @@ extern "C" {
     pub fn cullpethi_parse_time32_millisecond(text: *const u8, len: usize, millis: *mut i32) -> u8;
     pub fn cullpethi_parse_time32_second(text: *const u8, len: usize, seconds: *mut i32) -> u8;
     pub fn cullpethi_parse_date32(text: *const u8, len: usize, days: *mut i32) -> u8;
-    pub fn cullpethi_parse_interval_year_month(text: *const u8, len: usize, months: *mut i32)
-        -> u8;
+    pub fn cullpethi_parse_interval_year_month(
+        text: *const u8,
+        len: usize,
+        months: *mut i32,
+        place: *mut usize,
+    ) -> u8;
     pub fn cullpethi_parse_interval_day_time(
         text: *const u8,
         len: usize,
         days: *mut i32,
         millis: *mut i32,
+        place: *mut usize,
     ) -> u8;
     pub fn cullpethi_parse_interval_month_day_nano(
         text: *const u8,
@@ -42,6 +47,7 @@ extern "C" {
         months: *mut i32,
         days: *mut i32,
         nanos: *mut i64,
+        place: *mut usize,
     ) -> u8;
     pub fn cullpethi_parse_interval_month_day_nano_config(
         text: *const u8,
@@ -50,6 +56,7 @@ extern "C" {
         months: *mut i32,
         days: *mut i32,
         nanos: *mut i64,
+        place: *mut usize,
     ) -> u8;
     pub fn cullpethi_parse_column(
         column: u8,

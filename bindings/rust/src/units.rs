@@ -8,7 +8,7 @@ use std::str::FromStr;
 /// # use cullpethi::*;
 /// assert_eq!("hrs".parse(), Ok(IntervalUnit::Hour));
 /// assert_eq!("Months".parse(), Ok(IntervalUnit::Month));
-/// assert_eq!("fortnight".parse::<IntervalUnit>(), Err(Refusal::Interval));
+/// assert_eq!("fortnight".parse::<IntervalUnit>(), Err(Refusal::Interval { place: 0 }));
 /// ```
 #[derive(Clone, Copy, Debug, PartialEq, Eq, Hash)]
 #[repr(u8)]
@@ -96,7 +96,8 @@ impl IntervalUnit {
     }
 }
 
-/// A unit by one of its spellings. Another word gives [`Refusal::Interval`], as an interval with that word for a unit does.
+/// A unit by one of its spellings. Another word gives [`Refusal::Interval`], as an interval with that word for a unit does; its place is 0,
+/// where the word begins.
 ///
 /// This is written in Rust, and the crate's tests hold it to what the library's readers take for a unit.
 impl FromStr for IntervalUnit {
@@ -107,6 +108,6 @@ impl FromStr for IntervalUnit {
         let mut units = Self::ALL.into_iter();
         units
             .find(|unit| unit.spellings().contains(&word.as_str()))
-            .ok_or(Refusal::Interval)
+            .ok_or(Refusal::Interval { place: 0 })
     }
 }

@@ -75,7 +75,7 @@ fn intervals() {
     assert_eq!(parse_interval_year_month("5"), Ok(60));
     assert_eq!(
         parse_interval_year_month("178956971 years"),
-        Err(Refusal::Overflow)
+        Err(Refusal::Overflow { place: 0 })
     );
     assert_eq!(
         parse_interval_day_time("-1 month 1 ms"),
@@ -88,7 +88,7 @@ fn intervals() {
     assert_eq!(parse_interval_month_day_nano("1 day 2"), counts(2, 1, 0));
     assert_eq!(
         parse_interval_month_day_nano("1  day"),
-        Err(Refusal::Interval)
+        Err(Refusal::Interval { place: 2 })
     );
 }
 
@@ -135,8 +135,10 @@ fn texts() {
         assert_eq!(day, Ok(1));
     }
     assert_eq!(site_stamp(&cow), Err(Refusal::SiteStamp));
-    assert_eq!(parse_interval_day_time(&boxed), Err(Refusal::Interval));
-    assert_eq!(parse_interval_month_day_nano(&cow), Err(Refusal::Interval));
+    let no_amount = Refusal::Interval { place: 0 };
+    assert_eq!(parse_interval_year_month(&arc), Err(no_amount));
+    assert_eq!(parse_interval_day_time(&boxed), Err(no_amount));
+    assert_eq!(parse_interval_month_day_nano(&cow), Err(no_amount));
     let in_days = IntervalParseConfig::new(IntervalUnit::Day);
     let days = parse_interval_month_day_nano_config(&Arc::<str>::from("2"), in_days);
     assert_eq!(days, counts(0, 2, 0));
@@ -171,8 +173,8 @@ fn spellings_are_the_library_s() {
 
 /// Whether a word is a unit's, and which, is the same in both.
 fn same(word: &str) {
-    let unit = unit_in_the_library(word);
-    assert_eq!(word.parse(), unit.ok_or(Refusal::Interval), "{word:?}");
+    let unit = unit_in_the_library(word).ok_or(Refusal::Interval { place: 0 });
+    assert_eq!(word.parse(), unit, "{word:?}");
 }
 
 #[test]
@@ -205,8 +207,9 @@ fn words_are_the_library_s() {
             }
         }
     }
-    assert_eq!("".parse::<IntervalUnit>(), Err(Refusal::Interval));
-    assert_eq!(" day".parse::<IntervalUnit>(), Err(Refusal::Interval));
+    let no_unit = Err(Refusal::Interval { place: 0 });
+    assert_eq!("".parse::<IntervalUnit>(), no_unit);
+    assert_eq!(" day".parse::<IntervalUnit>(), no_unit);
 }
 
 #[test]
@@ -231,9 +234,28 @@ fn default_units() {
 
 #[test]
 fn refusals() {
-    for (i, refusal) in Refusal::ALL.iter().enumerate() {
+    let each = [
+        string_to_timestamp_nanos(b"\xFF").unwrap_err(),
+        string_to_timestamp_nanos("1970-02-30").unwrap_err(),
+        string_to_timestamp_nanos("1970-01-01_00:00:00").unwrap_err(),
+        string_to_timestamp_nanos("1970-01-01T24:00:00").unwrap_err(),
+        string_to_timestamp_nanos("1970-01-01T00:00:00+").unwrap_err(),
+        string_to_timestamp_nanos("2263-01-01").unwrap_err(),
+        string_to_time_nanoseconds("24:00").unwrap_err(),
+        parse_interval_month_day_nano("1  day").unwrap_err(),
+        parse_interval_month_day_nano("1 day 1 d").unwrap_err(),
+        parse_interval_month_day_nano("1 h 2147483648 months").unwrap_err(),
+        parse_interval_year_month("1 day").unwrap_err(),
+        site_stamp("1970-01-01 00:00:00Z").unwrap_err(),
+        parse_column(Column::Date32, "", &[1], &mut [0])
+            .unwrap_err()
+            .refusal,
+    ];
+    for (i, refusal) in each.into_iter().enumerate() {
         assert_eq!(usize::from(refusal.number()), i + 1);
+        assert_eq!(refusal.place().is_some(), (7..10).contains(&i));
     }
+    assert!(each.windows(2).all(|two| two[0] < two[1]));
     let error: Box<dyn std::error::Error> = Box::new(Refusal::SiteStamp);
     assert_eq!(
         error.to_string(),

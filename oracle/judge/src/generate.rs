@@ -33,6 +33,21 @@ const LIMITS: &[i128] = &[
     18_446_744_073_709_551_615,
 ];
 
+/// What is no amount, and what is no unit; some of it is cut in two.
+const NO_AMOUNTS: &[&str] =
+    &["", "-", ".", "-.", "1-2", "1-", "--1", "1.2.3", "1..2", "+1", "0.1234567890123456", "-99999999999999999999", "1e3", "\u{212A}1"];
+const NO_UNITS: &[&str] = &["", "x", "dayz", "2day", "day2", "5", "-", "1.5", "\u{212A}", "wee\u{212A}\u{212A}", "é", "dayſ", "🕐"];
+
+/// Units that add up to the same count, with how many of it each is, and the most that it holds.
+const ALIKE: &[(&[(&str, i128)], i128)] = &[
+    (&[("centuries", 1_200), ("dec", 120), ("y", 12), ("mons", 1)], i32::MAX as i128),
+    (&[("wee\u{212A}s", 7), ("d", 1)], i32::MAX as i128),
+    (&[("h", 3_600_000_000_000), ("m", 60_000_000_000), ("s", 1_000_000_000), ("us", 1_000), ("nanoseconds", 1)], i64::MAX as i128),
+];
+
+/// Amounts and units, as yet apart.
+type Components = Vec<(String, String)>;
+
 /// Texts from which damage starts.
 pub const EDGES: &[&str] = &[
     "2262-04-11T23:47:16.854775807", "1677-09-21T00:12:43.145224192", "1969-12-31T23:59:59.5", "1969-12-31T23:59:59.0005",
@@ -184,6 +199,12 @@ impl Generator {
         self.in_cases(unit)
     }
 
+    /// A spelling of the unit of that rank.
+    fn spelled(&mut self, rank: usize) -> String {
+        let unit = self.pick(&UNITS[FIRST[rank]..FIRST[rank + 1]]);
+        self.in_cases(unit)
+    }
+
     fn in_cases(&mut self, unit: &str) -> String {
         let how = self.below(4);
         unit.chars()
@@ -238,8 +259,7 @@ impl Generator {
             if !self.one_in(3) {
                 text.push(self.white());
             }
-            let spelling = self.pick(&UNITS[FIRST[rank]..FIRST[rank + 1]]);
-            text += &self.in_cases(spelling);
+            text += &self.spelled(rank);
         }
         text
     }
@@ -318,5 +338,101 @@ impl Generator {
             text.splice(at..at, vec![byte; n]);
         }
         text
+    }
+}
+
+/// Intervals with a fault, whose place is to be found.
+impl Generator {
+    /// A piece that is none in any component, units that come again, a total that does not fit and perhaps recovers; or more than one.
+    pub fn faulty_interval(&mut self) -> Vec<u8> {
+        let mut all = match self.below(4) {
+            0 => self.drawn(),
+            1 => self.repeating(),
+            _ => self.failing(),
+        };
+        let spoilt = [0, 0, 1, 1, 2][self.below(5) as usize];
+        for _ in 0..spoilt {
+            self.spoil(&mut all);
+        }
+        self.joined(&all).into_bytes()
+    }
+
+    fn drawn(&mut self) -> Components {
+        (0..1 + self.below(5)).map(|_| (self.plain_amount(), self.unit())).collect()
+    }
+
+    /// Three units, and two or three of them again, anywhere.
+    fn repeating(&mut self) -> Components {
+        let first = self.below(10) as usize;
+        let mut all: Components = (first..first + 3).map(|rank| (self.plain_amount(), self.spelled(rank))).collect();
+        for _ in 0..2 + self.below(2) {
+            let (at, rank) = (self.below(all.len() as u64 + 1) as usize, first + self.below(3) as usize);
+            all.insert(at, (self.plain_amount(), self.spelled(rank)));
+        }
+        all
+    }
+
+    /// Amounts around the most of a count, or small, with either sign, in any order; now and then a component of another count among them.
+    fn failing(&mut self) -> Components {
+        let (units, most) = ALIKE[self.below(ALIKE.len() as u64) as usize];
+        let mut all: Components = units.iter().map(|(unit, size)| (self.around(most / size), self.in_cases(unit))).collect();
+        (1..all.len()).rev().for_each(|i| all.swap(i, self.below(i as u64 + 1) as usize));
+        if self.one_in(3) {
+            let at = self.below(all.len() as u64 + 1) as usize;
+            all.insert(at, (self.around(3), self.pick(&["month", "ms", "days"]).to_string()));
+        }
+        all
+    }
+
+    fn around(&mut self, most: i128) -> String {
+        let whole = match self.below(5) {
+            0 | 1 => most - self.below(3) as i128,
+            2 => most + 1 + self.below(3) as i128,
+            _ => self.below(30) as i128,
+        };
+        format!("{}{whole}{}", self.pick(&["", "", "-"]), self.pick(&["", "", "", ".1", ".999"]))
+    }
+
+    /// Puts a piece that is none in the place of an amount or a unit, in the first, the last or any component.
+    fn spoil(&mut self, all: &mut Components) {
+        let last = all.len() - 1;
+        let at = [0, last, self.below(all.len() as u64) as usize][self.below(3) as usize];
+        if self.one_in(2) {
+            all[at].0 = self.pick(NO_AMOUNTS).to_string();
+        } else {
+            all[at].1 = self.pick(NO_UNITS).to_string();
+        }
+    }
+
+    /// A text of these, with white space of any kind between, now and then at the ends; of one in six the last unit is left out.
+    fn joined(&mut self, all: &Components) -> String {
+        let mut text = String::new();
+        if self.one_in(24) {
+            text.push(self.white());
+        }
+        for (i, (amount, unit)) in all.iter().enumerate() {
+            if i > 0 {
+                self.gap(&mut text);
+            }
+            text += amount;
+            if i + 1 == all.len() && self.one_in(6) {
+                break;
+            }
+            if self.one_in(2) {
+                self.gap(&mut text);
+            }
+            text += unit;
+        }
+        if self.one_in(8) {
+            self.gap(&mut text);
+        }
+        text
+    }
+
+    /// One white space, seldom two.
+    fn gap(&mut self, text: &mut String) {
+        for _ in 0..1 + self.below(40) / 39 {
+            text.push(self.white());
+        }
     }
 }

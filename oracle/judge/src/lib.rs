@@ -18,6 +18,7 @@ pub mod generate;
 pub mod library;
 pub mod lines;
 pub mod page;
+pub mod place;
 pub mod postgres;
 
 pub use Answer::*;

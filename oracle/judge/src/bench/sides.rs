@@ -76,26 +76,35 @@ fn one<V: Default>(f: One<V>, s: &[u8]) -> (u8, V) {
     (status, cell)
 }
 
-fn day_time(s: &[u8]) -> (u8, i32, i32) {
-    let (mut days, mut millis) = (0, 0);
+fn year_month(s: &[u8]) -> (u8, i32, usize) {
+    let (mut months, mut place) = (0, 0);
     // SAFETY: as in `one`.
-    let status = unsafe { cullpethi_parse_interval_day_time(s.as_ptr(), s.len(), &mut days, &mut millis) };
-    (status, days, millis)
+    let status = unsafe { cullpethi_parse_interval_year_month(s.as_ptr(), s.len(), &mut months, &mut place) };
+    (status, months, place)
 }
 
-fn month_day_nano(s: &[u8]) -> (u8, i32, i32, i64) {
-    let (mut months, mut days, mut nanos) = (0, 0, 0);
+fn day_time(s: &[u8]) -> (u8, i32, i32, usize) {
+    let (mut days, mut millis, mut place) = (0, 0, 0);
     // SAFETY: as in `one`.
-    let status = unsafe { cullpethi_parse_interval_month_day_nano(s.as_ptr(), s.len(), &mut months, &mut days, &mut nanos) };
-    (status, months, days, nanos)
+    let status = unsafe { cullpethi_parse_interval_day_time(s.as_ptr(), s.len(), &mut days, &mut millis, &mut place) };
+    (status, days, millis, place)
 }
 
-fn in_unit(s: &[u8], unit: u8) -> (u8, i32, i32, i64) {
-    let (mut months, mut days, mut nanos) = (0, 0, 0);
+fn month_day_nano(s: &[u8]) -> (u8, i32, i32, i64, usize) {
+    let (mut months, mut days, mut nanos, mut place) = (0, 0, 0, 0);
     // SAFETY: as in `one`.
     let status =
-        unsafe { cullpethi_parse_interval_month_day_nano_config(s.as_ptr(), s.len(), unit, &mut months, &mut days, &mut nanos) };
-    (status, months, days, nanos)
+        unsafe { cullpethi_parse_interval_month_day_nano(s.as_ptr(), s.len(), &mut months, &mut days, &mut nanos, &mut place) };
+    (status, months, days, nanos, place)
+}
+
+fn in_unit(s: &[u8], unit: u8) -> (u8, i32, i32, i64, usize) {
+    let (mut months, mut days, mut nanos, mut place) = (0, 0, 0, 0);
+    let (text, len) = (s.as_ptr(), s.len());
+    // SAFETY: as in `one`.
+    let status =
+        unsafe { cullpethi_parse_interval_month_day_nano_config(text, len, unit, &mut months, &mut days, &mut nanos, &mut place) };
+    (status, months, days, nanos, place)
 }
 
 /// The times of a reader on a set.
@@ -114,7 +123,7 @@ pub fn times(reader: Reader, texts: Order) -> Times {
         Time32Second => measure(texts, Time32SecondType::parse, |s| one(cullpethi_parse_time32_second, s)),
         Date32 => measure(texts, Date32Type::parse, |s| one(cullpethi_parse_date32, s)),
         Date64 => measure(texts, Date64Type::parse, |s| one(cullpethi_parse_date64, s)),
-        IntervalYearMonth => measure(texts, parse_interval_year_month, |s| one(cullpethi_parse_interval_year_month, s)),
+        IntervalYearMonth => measure(texts, parse_interval_year_month, year_month),
         IntervalDayTime => measure(texts, parse_interval_day_time, day_time),
         IntervalMonthDayNano => measure(texts, parse_interval_month_day_nano, month_day_nano),
         IntervalConfig(unit) => measure(

@@ -1,6 +1,7 @@
-//! Answers lines `READER TEXT` of standard input as the program `readings` does, with the Rust's answers. A number that the Rust does not
-//! tell is written `?`.
+//! Answers lines `READER TEXT` of standard input as the program `readings` does, with the Rust's answers; a refusal that has a place is
+//! written `refused 8 at 2`. A number that the Rust does not tell is written `?`.
 use judge::lines::{reader_named, unescape};
+use judge::place::Placed;
 use judge::*;
 use std::io::{BufRead, Write};
 
@@ -16,14 +17,16 @@ fn main() {
                 out.write_all(b" = not compared\n").unwrap();
                 continue;
             };
-            let answer = match rust_bytes(reader, &text) {
+            let answer = rust_bytes(reader, &text);
+            let written = match answer {
                 One(z) => format!("{z}"),
                 Two(y, z) => format!("{y} {z}"),
                 Three(x, y, z) => format!("{x} {y} {z}"),
                 Refused(Some(n)) => format!("refused {n}"),
                 Refused(None) => "refused ?".to_string(),
             };
-            write!(out, " = {answer}").unwrap();
+            let at = Placed::new(&text).place(reader, answer).map_or(String::new(), |place| format!(" at {place}"));
+            write!(out, " = {written}{at}").unwrap();
         }
         out.write_all(b"\n").unwrap();
     }

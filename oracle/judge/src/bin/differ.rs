@@ -1,8 +1,9 @@
-//! differ SEED COUNT: the Rust and the library on the same texts, COUNT for each family and besides all short texts over a small alphabet;
-//! then on whole columns, COUNT / 20 of each of the ten.
+//! differ SEED COUNT: the Rust and the library on the same texts, COUNT for each family and besides all short texts over small alphabets,
+//! COUNT / 4 more intervals with a fault; then on whole columns, COUNT / 20 of each of the ten.
 use judge::column::{accepted, by_library, by_rust, Texts, Whole, COLUMNS};
 use judge::generate::{Family, Generator};
-use judge::library::library;
+use judge::library::told;
+use judge::place::Placed;
 use judge::*;
 
 const STAMPS: [Reader; 7] = [
@@ -41,6 +42,8 @@ struct Counts {
     accepted: u64,
     not_utf8: u64,
     number_untold: u64,
+    /// Places, of 8, 9 and 10.
+    places: [u64; 3],
     differ: u64,
 }
 
@@ -50,6 +53,7 @@ impl std::ops::AddAssign for Counts {
         self.accepted += of.accepted;
         self.not_utf8 += of.not_utf8;
         self.number_untold += of.number_untold;
+        self.places.iter_mut().zip(of.places).for_each(|(n, more)| *n += more);
         self.differ += of.differ;
     }
 }
@@ -59,17 +63,22 @@ fn agree(rust: Answer, ours: Answer) -> bool {
     rust == ours || (rust == Refused(None) && matches!(ours, Refused(Some(2 | 6))))
 }
 
-fn compare(reader: Reader, text: &[u8], n: &mut Counts) {
-    let ours = library(reader, text);
-    let theirs = rust_bytes(reader, text);
+fn compare(reader: Reader, placed: &Placed, n: &mut Counts) {
+    let (ours, our_place) = told(reader, placed.text);
+    let theirs = rust_bytes(reader, placed.text);
+    let their_place = placed.place(reader, theirs);
     n.compared += 1;
     n.not_utf8 += (theirs == Refused(Some(1))) as u64;
     n.accepted += !matches!(ours, Refused(_)) as u64;
     n.number_untold += (theirs == Refused(None)) as u64;
-    if !agree(theirs, ours) {
+    if let Refused(Some(number @ 8..=10)) = theirs {
+        n.places[number as usize - 8] += 1;
+    }
+    if !agree(theirs, ours) || their_place != our_place {
         n.differ += 1;
         if n.differ <= 20 {
-            println!("differ: {reader:?} {:?} Rust {theirs:?} library {ours:?}", String::from_utf8_lossy(text));
+            let text = String::from_utf8_lossy(placed.text);
+            println!("differ: {reader:?} {text:?} Rust {theirs:?} at {their_place:?} library {ours:?} at {our_place:?}");
         }
     }
 }
@@ -78,10 +87,11 @@ fn compare(reader: Reader, text: &[u8], n: &mut Counts) {
 type Counted = [Counts; 7];
 
 fn on_all(family: Family, g: &mut Generator, text: &[u8], n: &mut Counted) {
+    let placed = Placed::new(text);
     for (reader, n) in readers(family).iter().zip(n) {
         match reader {
-            Reader::IntervalConfig(_) => compare(Reader::IntervalConfig(g.below(12) as u8), text, n),
-            _ => compare(*reader, text, n),
+            Reader::IntervalConfig(_) => compare(Reader::IntervalConfig(g.below(12) as u8), &placed, n),
+            _ => compare(*reader, &placed, n),
         }
     }
 }
@@ -111,6 +121,18 @@ fn short(family: Family, g: &mut Generator) -> Counted {
         Family::Interval => exhaust(family, "", &["1", "0", "-", ".", " ", "d", "m", "s", "\u{212A}", "w"], 6, g, &mut n),
     }
     n
+}
+
+/// Intervals most of which are refused at a place: all short texts whose amounts reach a limit, with white space of one byte and of three
+/// bytes, and generated ones.
+fn faulty(count: u64, g: &mut Generator) -> Counts {
+    let mut n = Counted::default();
+    exhaust(Family::Interval, "", &["1", "-", "2147483647", " ", "\u{3000}", "d", "w", "mon"], 6, g, &mut n);
+    for _ in 0..count {
+        let text = g.faulty_interval();
+        on_all(Family::Interval, g, &text, &mut n);
+    }
+    sum(&n)
 }
 
 fn sum(of: &Counted) -> Counts {
@@ -228,11 +250,18 @@ fn main() {
             on_all(family, &mut g, &text, &mut generated);
         }
         n += sum(&generated);
+        if family == Family::Interval {
+            n += faulty(count / 4, &mut g);
+        }
         println!(
             "{family:?}: compared {}, accepted {}, not UTF-8 {}, number untold by the Rust {}, different {}",
             n.compared, n.accepted, n.not_utf8, n.number_untold, n.differ
         );
         println!("  accepted of the generated: {}", shares(family, &generated));
+        if family == Family::Interval {
+            let [of_8, of_9, of_10] = n.places;
+            println!("  places compared: {} (of 8 {of_8}, of 9 {of_9}, of 10 {of_10})", of_8 + of_9 + of_10);
+        }
         passed += n.compared - n.differ;
         failed += n.differ;
     }
