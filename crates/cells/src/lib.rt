@@ -58,8 +58,8 @@ pub fn put_months(r: YearMonthRead, months: &mut i32, place: &mut usize) -> u8
 {
     match r {
         YearMonthRead::Value(v) => {
-            let m = v.0;
-            *months = m;
+            let value = v.0;
+            *months = value;
             0
         }
         YearMonthRead::Refused(why) => put_place(why, place),

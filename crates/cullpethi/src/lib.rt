@@ -187,13 +187,8 @@ pub extern "C" fn cullpethi_parse_interval_month_day_nano(
 ) -> u8
     ensures { λ r. ⌜ Told (plainMonthDayNano precision (now (text .entry))) r (counts (now (months .entry)) (now (days .entry)) (now (nanos .entry))) (counts (now (months .exit)) (now (days .exit)) (now (nanos .exit))) × ToldPlace (placeOf precision Month (now (text .entry))) (now (place .entry)) (now (place .exit)) ⌝ }
 {
-    put_interval(
-        parse_interval_month_day_nano(text),
-        months,
-        days,
-        nanos,
-        place,
-    )
+    let read = parse_interval_month_day_nano(text);
+    put_interval(read, months, days, nanos, place)
 }
 
 // The same with a default unit by its number, 0 century to 11 nanosecond; 255 where there is no such unit.

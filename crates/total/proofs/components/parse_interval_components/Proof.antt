@@ -137,17 +137,18 @@ add-requires-2 c κs =
 loop-less : tie.Need-loop-less Inv-loop μ-loop
 unfolding pieceIs takenIs placeAfter
 loop-less c =
-    let p = c .before .before .before .before .before .before in
-    let q = p .before .before in
+    let piece = c .before .before .before .before .before .before in
+    let q = piece .before .before in
     let l = q .before in
     let x = l .before .before .args in
-    let M : MoreIs precision (x .value .now) (l .loop .at) (p .piece3 .given .0 .0) (p .piece3 .given .0 .1 .0) (p .piece3 .given .0 .1 .1 .0) = (rw (p .piece3 .given .1) at (q .component .ensures)) .0 in
-    let e : q .component .result .at ≡ p .piece3 .given .0 .1 .1 .0 = (rw (p .piece3 .given .1) at (q .component .ensures)) .1 in
+    let M : MoreIs precision (x .value .now) (l .loop .at) (piece .piece3 .given .0 .0) (piece .piece3 .given .0 .1 .0) (piece .piece3 .given .0 .1 .1 .0) = (rw (piece .piece3 .given .1) at (q .component .ensures)) .0 in
+    let e : q .component .result .at ≡ piece .piece3 .given .0 .1 .1 .0 = (rw (piece .piece3 .given .1) at (q .component .ensures)) .1 in
     omega (arith, M .further, M .inside)
 
 loop-again : tie.Need-loop-again Inv-loop μ-loop
 unfolding pieceIs takenIs placeAfter
 loop-again c =
+    let t = c .add2 .ensures in
     let m = c .before .before .before in
     let k = m .before .mark2 in
     let p = m .before .before .before in
@@ -164,8 +165,8 @@ loop-again c =
     rw e (
       M .inside,
       length-set (l .loop .seen) (k .result) true ∙ i .1,
-      rw (m .or2 .ensures, came-or r (getD (l .loop .seen) (k .result) false) (l .loop .at)) (more-goes (x .value .now) (x .default-unit) (l .loop .at) (l .loop .seen) (came r) (totalsOf (l .loop .total)) (i .2) a v (k .ensures) F (c .add2 .ensures .0) (i .1) M),
-      more-place (x .value .now) (x .default-unit) (l .loop .at) (l .loop .seen) r (totalsOf (l .loop .total)) (unfitOf (l .loop .total)) (i .3) a v (k .ensures) F (i .1) M (m .or2 .ensures) (c .add2 .ensures .0) (c .add2 .ensures .1),
+      rw (m .or2 .ensures, came-or r (getD (l .loop .seen) (k .result) false) (l .loop .at)) (more-goes (x .value .now) (x .default-unit) (l .loop .at) (l .loop .seen) (came r) (totalsOf (l .loop .total)) (i .2) a v (k .ensures) F (t .0) (i .1) M),
+      more-place (x .value .now) (x .default-unit) (l .loop .at) (l .loop .seen) r (totalsOf (l .loop .total)) (unfitOf (l .loop .total)) (i .3) a v (k .ensures) F (i .1) M (m .or2 .ensures) (t .0) (t .1),
     )
 
 pub parse-interval-components-spec : {M : Type 1} → statement M
