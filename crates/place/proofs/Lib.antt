@@ -3,3 +3,4 @@ pub mod Cutting
 pub mod Turning
 pub mod Firsts
 pub mod Placing
+pub mod Readings
