@@ -1,17 +1,16 @@
 -- Amount pieces, and where a component cannot be read. An amount is measured to its piece's end, or the piece is none. Assumes nothing.
-use mathlib.Core.Path.{_≡_, refl, sym, _∙_}
+use mathlib.Core.Path.{_≡_, refl, _∙_}
 use mathlib.Core.Bool.{Bool, true, false, not, _||_}
-use mathlib.Core.Logic.{_⊎_, inl, inr, ⊎-elim}
+use mathlib.Core.Logic.{_⊎_, ⊎-elim}
 use mathlib.Core.List.{List, [], _∷_, _++_, append-assoc}
 use Prim.Native.Nat.{ℕ, suc, _+_, _≤_, _<_}
-use native.Mathlib.Nat.{add-zero}
 use native.Mathlib.Omega.{arith}
 use lib.Dec.{eqb, ltb}
 use lib.ListN.{length, getD, take, drop, length-append, take-append-drop}
-use lib.Seq.{length-take-le, getD-drop}
-use borrow.Author.Tests.{eqb-true, eq-eqb, ne-eqb, ltb-true, lt-ltb}
+use lib.Seq.{length-take-le}
+use borrow.Author.Tests.{eqb-true, eq-eqb, ltb-true, lt-ltb}
 use Rattle.text.specs.Digits.{isDigit, digits}
-use Rattle.text.proofs.Bools.{and-left, and-right, or-cases, both-ways, by-test, fails, within-over, within-is}
+use Rattle.text.proofs.Bools.{and-left, and-right, or-cases, both-ways, by-test, fails, within-is}
 use Rattle.white.specs.WhiteSpace.{whiteLen}
 use Rattle.number.proofs.Agreement.{all-digits}
 use Rattle.amount.specs.Grammar.{Sign, no-sign, minus, Value, Amount, whole, decimal, fraction}

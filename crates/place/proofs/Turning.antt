@@ -1,16 +1,15 @@
 -- The pieces that a text begins with, and its division's first step: no component, and the first bad piece is there; a component that ends the text,
 -- or one more, and its pieces are good. Assumes nothing.
 use mathlib.Core.Path.{_≡_, refl, sym, ap, _∙_}
-use mathlib.Core.Bool.{Bool, true, false, not, cond}
-use mathlib.Core.Logic.{⊎-elim}
+use mathlib.Core.Bool.{Bool, true, false, not}
 use mathlib.Core.List.{List, [], _∷_, _++_}
-use mathlib.Core.Option.{Option, none, some}
+use mathlib.Core.Option.{none, some}
 use Prim.Native.Nat.{ℕ, zero, suc, _+_, _-_, _≤_, _<_}
-use native.Mathlib.Nat.{add-zero, add-assoc}
+use native.Mathlib.Nat.{add-zero}
 use native.Mathlib.Omega.{arith}
 use lib.Dec.{eqb, leb}
 use lib.ListN.{length, getD, take, drop, length-drop, take-append-drop, drop-of-length-le}
-use lib.Seq.{length-take-le, take-take, take-add, drop-drop, drop-at, getD-drop}
+use lib.Seq.{length-take-le, take-take, take-add, drop-drop, drop-at}
 use borrow.Author.Tests.{eqb-true, eqb-false, eq-eqb, ne-eqb, leb-true, leb-false}
 use Rattle.text.proofs.Bools.{by-test, both-ways, fails}
 use Rattle.white.specs.WhiteSpace.{whiteLen}
@@ -24,7 +23,7 @@ use Rattle.component.specs.Grammar.{Component}
 use Rattle.component.specs.Division.{Step, bad, stop, go, endStep, unitStep, restStep, amountStep, step}
 use Rattle.component.specs.Fault.{inAmount, pieceLen, isAmount, fault}
 use Rattle.component.proofs.Agreement.{rest-cons, end-cons}
-use Rattle.component.proofs.Faults.{in-range, piece-on, piece-none, piece-inside, piece-ends, piece-measured, measured-piece, amount-true, fault-first}
+use Rattle.component.proofs.Faults.{in-range, piece-on, piece-inside, piece-measured, measured-piece, amount-true, fault-first}
 use Rattle.amount.proofs.AmountLaws.{measured}
 use Rattle.place.specs.Pieces.{Piece, piece, Pair, pair, bytesOf, componentOf}
 use Rattle.place.specs.Where.{words, isWhole, partedAt, pairsOf, pairsFrom, orLater, badUnit, firstBad}
@@ -176,10 +175,10 @@ module _ (p : ℕ) (t : List ℕ) where
           rw (words-more p t (omega (arith, glued-word)), glued-word)
           (pairs-parted (piece p (take g t)) (words (p + (g + whiteLen (drop g t))) (drop (g + whiteLen (drop g t)) t)) not-whole ∙ rw (k-of, parted))
 
-    pub with-last : length t ≤ g → Rest []
+    with-last : length t ≤ g → Rest []
     with-last l = by-test (eqb w 0) (λ e. glued-last (eqb-true w 0 e) l) (λ e. apart-last (omega (arith, eqb-false w 0 e)) l)
 
-    pub with-more : g < length t → Rest (pairsFrom (p + (g + whiteLen (drop g t))) (drop (g + whiteLen (drop g t)) t))
+    with-more : g < length t → Rest (pairsFrom (p + (g + whiteLen (drop g t))) (drop (g + whiteLen (drop g t)) t))
     with-more l = by-test (eqb w 0) (λ e. glued-more (eqb-true w 0 e) l) (λ e. apart-more (omega (arith, eqb-false w 0 e)) l)
 
 -- ---- a step of the division
@@ -267,7 +266,7 @@ module _ (n p : ℕ) (t : List ℕ) where
             let q : amountLen n t ≡ pieceLen t = sym (measured-piece n t (omega arith) (rw h i)) in
             both-ways (isAmount n (take (pieceLen t) t)) e (amount-true n (take (pieceLen t) t) (rw q at (measured n t (omega arith)))))
 
-    pub turn-none : Turn n p t (step n t)
+    turn-none : Turn n p t (step n t)
     turn-none =
         let B = begins p t in
         let a : isAmount n (B .this .amount .bytes) ≡ false = rw (B .amount-is) e in
@@ -334,10 +333,10 @@ module _ (n p : ℕ) (t : List ℕ) where
           rw s (turn-go q (g + whiteLen (drop g t)) (with-more p t h w f g W F G l) (both U)))
           (λ U. ends (pairsFrom (p + (g + whiteLen (drop g t))) (drop (g + whiteLen (drop g t)) t)) (with-more p t h w f g W F G l) U)
 
-      pub turn-unit : Turn n p t (step n t)
+      turn-unit : Turn n p t (step n t)
       turn-unit = by-test (leb (length t) g) (λ l. last (leb-true (length t) g l)) (λ l. more (leb-false (length t) g l))
 
-    pub turn-some : Turn n p t (step n t)
+    turn-some : Turn n p t (step n t)
     turn-some =
         by-test (leb (length t) (pieceLen t))
         (λ l. turn-alone (leb-true (length t) (pieceLen t) l))

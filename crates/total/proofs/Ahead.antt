@@ -19,17 +19,17 @@ use Rattle.total.specs.Helpers.{added, unfitWith}
 
 -- ---- the first of several places
 
-pub or-assoc : (a b c : Option ℕ) → orLater (orLater a b) c ≡ orLater a (orLater b c)
+or-assoc : (a b c : Option ℕ) → orLater (orLater a b) c ≡ orLater a (orLater b c)
 unfolding orLater
 or-assoc none b c = refl
 or-assoc (some p) b c = refl
 
-pub or-none : (a : Option ℕ) → orLater a none ≡ a
+or-none : (a : Option ℕ) → orLater a none ≡ a
 unfolding orLater
 or-none none = refl
 or-none (some p) = refl
 
-pub none-or : (a : Option ℕ) → orLater none a ≡ a
+none-or : (a : Option ℕ) → orLater none a ≡ a
 unfolding orLater
 none-or a = refl
 

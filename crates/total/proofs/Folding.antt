@@ -37,7 +37,7 @@ use Rattle.number.proofs.Sizes.{small-fits}
 use Rattle.rule.proofs.Turns.{mark, unseen, addTo, settle, settle-start, settle-bad, settle-last, settle-more, settle-same}
 use Rattle.rule.proofs.Demand3.{but-eight, eight}
 use Rattle.place.specs.Pieces.{Pair}
-use Rattle.place.specs.Where.{orLater, seenWith, noneSeen, firstBad, firstOf, pairsFrom, place}
+use Rattle.place.specs.Where.{orLater, seenWith, noneSeen, firstOf, pairsFrom, place}
 use Rattle.place.proofs.Turning.{Next, on-bad, on-stop, on-go}
 use Rattle.total.proofs.Ahead.{ahead, ahead-start, ahead-bad, ahead-next, ahead-end, ahead-same}
 

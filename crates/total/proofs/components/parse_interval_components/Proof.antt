@@ -1,9 +1,8 @@
 -- `total::components::parse_interval_components` meets its contract. The loop's invariant: marks, where a unit first came again, the totals so
 -- far, where they first did not fit, and what is left of the text, give its answer and its place. The measure is what is left of the text.
 -- Assumes nothing.
-use mathlib.Core.Path.{_≡_, refl, sym, _∙_}
-use mathlib.Core.Bool.{true, false, cond}
-use mathlib.Core.Option.{none, some}
+use mathlib.Core.Path.{_≡_, refl, _∙_}
+use mathlib.Core.Bool.{true, false}
 use Prim.Native.Nat.{_-_, _≤_}
 use native.Mathlib.Omega.{arith}
 use lib.ListN.{length, getD, length-set}
