@@ -2,11 +2,11 @@
 use mathlib.Core.Path.{_≡_, refl, _∙_}
 use mathlib.Core.Bool.{Bool, true, false, not, _||_}
 use mathlib.Core.Logic.{_⊎_, ⊎-elim}
-use mathlib.Core.List.{List, [], _∷_, _++_, append-assoc}
+use mathlib.Core.List.{List, [], _∷_, _++_}
 use Prim.Native.Nat.{ℕ, suc, _+_, _≤_, _<_}
 use native.Mathlib.Omega.{arith}
 use lib.Dec.{eqb, ltb}
-use lib.ListN.{length, getD, take, drop, length-append, take-append-drop}
+use lib.ListN.{length, getD, take, drop, take-append-drop}
 use lib.Seq.{length-take-le}
 use borrow.Author.Tests.{eqb-true, eq-eqb, ltb-true, lt-ltb}
 use Rattle.text.specs.Digits.{isDigit, digits}
@@ -16,7 +16,7 @@ use Rattle.number.proofs.Agreement.{all-digits}
 use Rattle.amount.specs.Grammar.{Sign, no-sign, minus, Value, Amount, whole, decimal, fraction}
 use Rattle.amount.specs.Scan.{amountLen, amountOf}
 use Rattle.amount.proofs.AmountLaws.{Breaks, amount-run, amount-inside, amount-agrees, measured}
-use Rattle.component.specs.Fault.{inAmount, pieceLen, isAmount, fault}
+use Rattle.component.specs.Fault.{inAmount, allInAmount, pieceLen, isAmount, fault}
 
 -- ---- bytes of a piece
 
@@ -82,30 +82,39 @@ pub piece-breaks : (t : List ℕ) → Breaks (drop (pieceLen t) t)
 unfolding Breaks
 piece-breaks t = is-out (getD (drop (pieceLen t) t) 0 0) (piece-ends t)
 
--- digits, a sign, an amount are of the piece that they begin
-digits-piece : (d x : List ℕ) → digits d ≡ true → pieceLen (d ++ x) ≡ length d + pieceLen x
-unfolding digits
-digits-piece [] x D = omega arith
-digits-piece (b ∷ d) x D =
-    piece-on b (d ++ x) (digit-in b (and-left (isDigit b) (digits d) D)) ∙ omega (arith, digits-piece d x (and-right (isDigit b) (digits d) D))
+-- bytes of an amount are of the piece that they begin
+pub in-piece : (a x : List ℕ) → allInAmount a ≡ true → pieceLen (a ++ x) ≡ length a + pieceLen x
+unfolding allInAmount
+in-piece [] x A = omega arith
+in-piece (b ∷ a) x A =
+    piece-on b (a ++ x) (and-left (inAmount b) (allInAmount a) A) ∙ omega (arith, in-piece a x (and-right (inAmount b) (allInAmount a) A))
 
-point-piece : (f x : List ℕ) → digits f ≡ true → pieceLen (0x2E ∷ (f ++ x)) ≡ suc (length f + pieceLen x)
-unfolding inAmount
-point-piece f x F = piece-on 0x2E (f ++ x) refl ∙ omega (arith, digits-piece f x F)
+-- ---- an amount is of them
 
-sign-piece : {s : List ℕ} {neg : Bool} (x : List ℕ) → Sign s neg → pieceLen (s ++ x) ≡ length s + pieceLen x
-unfolding inAmount
-sign-piece x no-sign = omega arith
-sign-piece x minus = piece-on 0x2D x refl ∙ omega arith
+all-append : (a b : List ℕ) → allInAmount a ≡ true → allInAmount b ≡ true → allInAmount (a ++ b) ≡ true
+unfolding allInAmount
+all-append [] b A B = B
+all-append (x ∷ a) b A B = rw (and-left (inAmount x) (allInAmount a) A) (all-append a b (and-right (inAmount x) (allInAmount a) A) B)
 
-pub amount-piece : {n : ℕ} {a : List ℕ} {v : Value} → Amount n a v → (x : List ℕ) → pieceLen (a ++ x) ≡ length a + pieceLen x
-amount-piece (whole {s} {d} S W) x =
-    rw (append-assoc s d x) (omega (arith, sign-piece (d ++ x) S, digits-piece d x (all-digits (W .written)), length-append s d))
-amount-piece (decimal {s} {d} {f} S W F) x =
-    rw (append-assoc s (d ++ (0x2E ∷ f)) x, append-assoc d (0x2E ∷ f) x)
-    (omega (arith, sign-piece (d ++ (0x2E ∷ (f ++ x))) S, digits-piece d (0x2E ∷ (f ++ x)) (all-digits (W .written)), point-piece f x (all-digits (F .written)), length-append s (d ++ (0x2E ∷ f)), length-append d (0x2E ∷ f)))
-amount-piece (fraction {s} {f} S F) x =
-    rw (append-assoc s (0x2E ∷ f) x) (omega (arith, sign-piece (0x2E ∷ (f ++ x)) S, point-piece f x (all-digits (F .written)), length-append s (0x2E ∷ f)))
+all-sign : {s : List ℕ} {neg : Bool} → Sign s neg → allInAmount s ≡ true
+unfolding allInAmount inAmount
+all-sign no-sign = refl
+all-sign minus = refl
+
+all-digits-in : (d : List ℕ) → digits d ≡ true → allInAmount d ≡ true
+unfolding allInAmount digits
+all-digits-in [] D = refl
+all-digits-in (b ∷ d) D = rw (digit-in b (and-left (isDigit b) (digits d) D)) (all-digits-in d (and-right (isDigit b) (digits d) D))
+
+all-point : (f : List ℕ) → digits f ≡ true → allInAmount (0x2E ∷ f) ≡ true
+unfolding allInAmount inAmount
+all-point f F = all-digits-in f F
+
+all-amount : {n : ℕ} {a : List ℕ} {v : Value} → Amount n a v → allInAmount a ≡ true
+all-amount (whole {s} {d} S W) = all-append s d (all-sign S) (all-digits-in d (all-digits (W .written)))
+all-amount (decimal {s} {d} {f} S W F) =
+    all-append s (d ++ (0x2E ∷ f)) (all-sign S) (all-append d (0x2E ∷ f) (all-digits-in d (all-digits (W .written))) (all-point f (all-digits (F .written))))
+all-amount (fraction {s} {f} S F) = all-append s (0x2E ∷ f) (all-sign S) (all-point f (all-digits (F .written)))
 
 -- ---- the piece is an amount, or it is none
 
@@ -136,7 +145,7 @@ module _ (n : ℕ) (t : List ℕ) where
   pub measured-piece : 0 < amountLen n t → inAmount (getD (drop (amountLen n t) t) 0 0) ≡ false → pieceLen t ≡ amountLen n t
   measured-piece h e =
       let l = length-take-le (amountLen n t) t (amount-inside n t) in
-      let p : pieceLen t ≡ length (take (amountLen n t) t) + pieceLen (drop (amountLen n t) t) = rw (take-append-drop (amountLen n t) t) at (amount-piece (measured n t h) (drop (amountLen n t) t)) in
+      let p : pieceLen t ≡ length (take (amountLen n t) t) + pieceLen (drop (amountLen n t) t) = rw (take-append-drop (amountLen n t) t) at (in-piece (take (amountLen n t) t) (drop (amountLen n t) t) (all-amount (measured n t h))) in
       omega (arith, p, l, piece-none (drop (amountLen n t) t) e)
 
   -- no amount is measured: the piece is none

@@ -2,7 +2,7 @@
 -- that is none. The pieces are the Rust's: the amount piece is every byte up to the first that `not_interval_amount` tells, and the unit
 -- piece follows it, glued or behind a white space character. The limit n is the most digits behind a point. `Rattle.place.specs.Pieces`
 -- has the pieces as a relation. Assumes nothing.
-use mathlib.Core.Bool.{Bool, cond, _&&_, _||_}
+use mathlib.Core.Bool.{Bool, true, cond, _&&_, _||_}
 use mathlib.Core.List.{List, [], _∷_}
 use Prim.Native.Nat.{ℕ, suc, _+_}
 use lib.Dec.{eqb, ltb}
@@ -14,6 +14,11 @@ use Rattle.amount.specs.Scan.{amountLen}
 -- a digit, a point or a minus
 unfoldable pub inAmount : ℕ → Bool
 inAmount b = isDigit b || (eqb b 0x2E || eqb b 0x2D)
+
+-- every byte is one
+unfoldable pub allInAmount : List ℕ → Bool
+allInAmount [] = true
+allInAmount (b ∷ t) = inAmount b && allInAmount t
 
 -- how many of them a text begins with: the length of its amount piece
 unfoldable pub pieceLen : List ℕ → ℕ

@@ -12,16 +12,16 @@ use lib.Dec.{eqb, leb, ltb}
 use lib.ListN.{length, getD, take, drop, length-append, length-drop, take-append-drop, drop-of-length-le, List·getD-append}
 use lib.Seq.{take-append-le, take-append-seam, drop-append-seam, drop-append-add, drop-drop, drop-cons, length-take-le, take-all, take-length}
 use borrow.Author.Tests.{eqb-true, eqb-false, eq-eqb, ne-eqb, leb-true, leb-false, ltb-true}
-use Rattle.text.proofs.Bools.{and-left, and-right, by-test}
+use Rattle.text.proofs.Bools.{by-test}
 use Rattle.white.specs.WhiteSpace.{White, white, whiteLen}
 use Rattle.white.proofs.WhiteAgrees.{found, measures}
 use Rattle.white.proofs.Characters.{white-some}
 use Rattle.unit.specs.Units.{wordLen}
 use Rattle.unit.proofs.Spelling.{no-more, Ends, at-end, at-white, word-run, word-on, word-off}
 use Rattle.unit.proofs.WordLaws.{Halts, word-is}
-use Rattle.component.specs.Fault.{inAmount, pieceLen}
-use Rattle.component.proofs.Faults.{piece-on, piece-none, piece-inside, piece-ends}
-use Rattle.place.specs.Pieces.{Piece, piece, Unspaced, Words, last-word, word-then, allInAmount, Pair, pair, Pairs, no-word, parted, two-words, one-word, Splits}
+use Rattle.component.specs.Fault.{inAmount, allInAmount, pieceLen}
+use Rattle.component.proofs.Faults.{in-piece, piece-none, piece-inside, piece-ends}
+use Rattle.place.specs.Pieces.{Piece, piece, Unspaced, Words, last-word, word-then, Pair, pair, Pairs, no-word, parted, two-words, one-word, Splits}
 use Rattle.place.specs.Where.{wordThen, wordsBy, words, isWhole, partedAt, pairsOf, pairsFrom}
 
 -- ---- the bytes of a character
@@ -188,14 +188,7 @@ words-more p t h =
 
 -- ---- pairs, both ways
 
--- bytes of amounts are of the piece that they begin
-in-piece : (a x : List ℕ) → allInAmount a ≡ true → pieceLen (a ++ x) ≡ length a + pieceLen x
-unfolding allInAmount
-in-piece [] x A = omega arith
-in-piece (b ∷ a) x A =
-    piece-on b (a ++ x) (and-left (inAmount b) (allInAmount a) A) ∙ omega (arith, in-piece a x (and-right (inAmount b) (allInAmount a) A))
-
--- and a piece is of them
+-- a piece is of bytes of amounts
 piece-all : (t : List ℕ) → allInAmount (take (pieceLen t) t) ≡ true
 unfolding allInAmount pieceLen
 piece-all [] = refl
@@ -212,7 +205,7 @@ module _ (w : Piece) where
   whole-all e = rw (eqb-true (pieceLen (w .bytes)) (length (w .bytes)) e, take-length (w .bytes)) at (piece-all (w .bytes))
 
   -- a word that is not whole is parted, whatever follows
-  by-parted : (l : List Piece) → isWhole w ≡ false → pairsOf (w ∷ l) ≡ partedAt (pieceLen (w .bytes)) w ∷ pairsOf l
+  pub by-parted : (l : List Piece) → isWhole w ≡ false → pairsOf (w ∷ l) ≡ partedAt (pieceLen (w .bytes)) w ∷ pairsOf l
   unfolding pairsOf
   by-parted [] e = rw e
   by-parted (u ∷ l) e = rw e

@@ -27,7 +27,7 @@ use Rattle.component.proofs.Faults.{in-range, piece-on, piece-inside, piece-mea
 use Rattle.amount.proofs.AmountLaws.{measured}
 use Rattle.place.specs.Pieces.{Piece, piece, Pair, pair, bytesOf, componentOf}
 use Rattle.place.specs.Where.{words, isWhole, partedAt, pairsOf, pairsFrom, orLater, badUnit, firstBad}
-use Rattle.place.proofs.Cutting.{words-last, words-more}
+use Rattle.place.proofs.Cutting.{words-last, words-more, by-parted}
 
 -- ---- the amount piece of a text and of its word
 
@@ -64,11 +64,6 @@ pairs-alone w e = rw e
 pairs-whole : (w u : Piece) (l : List Piece) → isWhole w ≡ true → pairsOf (w ∷ u ∷ l) ≡ pair w true (some u) ∷ pairsOf l
 unfolding pairsOf
 pairs-whole w u l e = rw e
-
-pairs-parted : (w : Piece) (l : List Piece) → isWhole w ≡ false → pairsOf (w ∷ l) ≡ partedAt (pieceLen (w .bytes)) w ∷ pairsOf l
-unfolding pairsOf
-pairs-parted w [] e = rw e
-pairs-parted w (u ∷ l) e = rw e
 
 -- ---- the pairs of a text t from the place p on: k bytes are its amount piece
 
@@ -167,13 +162,13 @@ module _ (p : ℕ) (t : List ℕ) where
       unfolding pairsFrom pairsOf
       glued-last l =
           rw (words-last p t (omega (arith, glued-word)), glued-word)
-          (pairs-parted (piece p (take g t)) [] not-whole ∙ rw (k-of, parted))
+          (by-parted (piece p (take g t)) [] not-whole ∙ rw (k-of, parted))
 
       glued-more : g < length t → Rest (pairsFrom (p + (g + whiteLen (drop g t))) (drop (g + whiteLen (drop g t)) t))
       unfolding pairsFrom
       glued-more l =
           rw (words-more p t (omega (arith, glued-word)), glued-word)
-          (pairs-parted (piece p (take g t)) (words (p + (g + whiteLen (drop g t))) (drop (g + whiteLen (drop g t)) t)) not-whole ∙ rw (k-of, parted))
+          (by-parted (piece p (take g t)) (words (p + (g + whiteLen (drop g t))) (drop (g + whiteLen (drop g t)) t)) not-whole ∙ rw (k-of, parted))
 
     with-last : length t ≤ g → Rest []
     with-last l = by-test (eqb w 0) (λ e. glued-last (eqb-true w 0 e) l) (λ e. apart-last (omega (arith, eqb-false w 0 e)) l)

@@ -2,14 +2,14 @@
 -- Each has its place: how many bytes of the text stand before it. Every text is cut in exactly one way
 -- (`Rattle.place.proofs.Cutting.splits`), and Where.antt computes it. Assumes nothing.
 use mathlib.Core.Path.{_≡_}
-use mathlib.Core.Bool.{Bool, true, false, _&&_}
+use mathlib.Core.Bool.{Bool, true, false}
 use mathlib.Core.List.{List, [], _∷_, _++_}
 use mathlib.Core.Option.{Option, none, some}
 use Prim.Native.Nat.{ℕ, _+_}
 use lib.ListN.{length}
 use Rattle.white.specs.WhiteSpace.{White}
 use Rattle.component.specs.Grammar.{Component, component}
-use Rattle.component.specs.Fault.{inAmount}
+use Rattle.component.specs.Fault.{inAmount, allInAmount}
 
 -- bytes of a text, and the place where they begin
 pub record Piece : Type 0 where
@@ -28,11 +28,6 @@ Unspaced w = (a s b : List ℕ) → w ≡ a ++ (s ++ b) → White s → ⊥
 pub data Words : ℕ → List ℕ → List Piece → Type 0 where
   last-word : {p : ℕ} {w : List ℕ} → Unspaced w → Words p w (piece p w ∷ [])
   word-then : {p : ℕ} {w s r : List ℕ} {l : List Piece} → Unspaced w → White s → Words (p + (length w + length s)) r l → Words p (w ++ (s ++ r)) (piece p w ∷ l)
-
--- every byte is a digit, a point or a minus
-unfoldable pub allInAmount : List ℕ → Bool
-allInAmount [] = true
-allInAmount (b ∷ t) = inAmount b && allInAmount t
 
 -- an amount piece and its unit piece, which may be missing, and whether white space stands between them
 pub record Pair : Type 0 where

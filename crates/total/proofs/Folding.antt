@@ -113,18 +113,12 @@ unfolding onAdded added addTo
 added-is u none c = refl
 added-is u (some k) c = refl
 
--- the answer at a last component is neither 1 nor 8
-not-one : (b : Bool) (o : Option Counts) → cond b (refused 9) (onTotals o) ≡ refused 1 → ⊥
+-- the answer at a last component is no number below 9
+from-nine : {k : ℕ} (b : Bool) (o : Option Counts) → k < 9 → cond b (refused 9) (onTotals o) ≡ refused k → ⊥
 unfolding onTotals
-not-one true o e = let z : _≡_ {A = ℕ} 9 1 = cc in omega arith
-not-one false none e = let z : _≡_ {A = ℕ} 10 1 = cc in omega arith
-not-one false (some c) e = let z : _≡_ {A = ℕ} 0 1 = cc in omega arith
-
-not-eight : (b : Bool) (o : Option Counts) → cond b (refused 9) (onTotals o) ≡ refused 8 → ⊥
-unfolding onTotals
-not-eight true o e = let z : _≡_ {A = ℕ} 9 8 = cc in omega arith
-not-eight false none e = let z : _≡_ {A = ℕ} 10 8 = cc in omega arith
-not-eight false (some c) e = let z : _≡_ {A = ℕ} 0 1 = cc in omega arith
+from-nine {k} true o h e = let z : _≡_ {A = ℕ} 9 k = cc in omega arith
+from-nine {k} false none h e = let z : _≡_ {A = ℕ} 10 k = cc in omega arith
+from-nine false (some c) h e = let z : _≡_ {A = ℕ} 0 1 = cc in omega arith
 
 module _ (s : List ℕ) (u : IntervalUnit) where
   pub starts : Goes s u 0 (replicate 12 false) false (some zeros)
@@ -166,11 +160,11 @@ module _ (s : List ℕ) (u : IntervalUnit) where
           let c = L .this in
           let e : unitFor u c ≡ v = L .holds .unit-is u ∙ sym o in
           let n : onDivision precision u (divide precision s) ≡ cond (repeated || getD seen k false) (refused 9) (onTotals t) = G ∙ rw (at-last precision s at (L .stepped), settle-last precision u (seenIn seen) repeated total c, e, K, totals-are c w (L .holds) e) in
-          R ∙ sym (but-eight precision u s n (not-eight (repeated || getD seen k false) t))
+          R ∙ sym (but-eight precision u s n (from-nine (repeated || getD seen k false) t (omega arith)))
 
       -- so the text is UTF-8
       pub last-utf8 : {r : Outcome Counts} → r ≡ cond (repeated || getD seen k false) (refused 9) (onTotals t) → r ≡ monthDayNano precision u s → utf8 s ≡ true
-      last-utf8 R A = answered-utf8 A (λ e. not-one (repeated || getD seen k false) t (sym R ∙ e))
+      last-utf8 R A = answered-utf8 A (λ e. from-nine (repeated || getD seen k false) t (omega arith) (sym R ∙ e))
 
       pub more-goes : length seen ≡ 12 → {x : ℕ} → MoreIs precision s at a v x → Goes s u x (set seen k true) (repeated || getD seen k false) t
       unfolding orElse
