@@ -28,7 +28,7 @@ pub struct Asked {
     pub reader: Reader,
     // Whether the line's number goes in front.
     pub number: bool,
-    // Whether a text that is refused at a place is shown with a caret below it.
+    // Whether a line of standard input that is refused at a place is shown with a caret below it.
     pub caret: bool,
 }
 
