@@ -1,4 +1,6 @@
 // Amounts, as Rust's `IntervalAmount::from_str` takes them, read at a place of a text.
+#![tactic(auto)]
+
 ghost use Rattle.amount.specs.Grammar.{precision};
 ghost use Rattle.amount.specs.Read.{amount_is};
 

@@ -1,4 +1,6 @@
 // The proleptic Gregorian calendar: the day number of a date, by its cycle of 400 years, which has 146,097 days.
+#![tactic(auto)]
+
 ghost use Rattle.std.specs.Prelude.{◌≡◌};
 ghost use Rattle.calendar.specs.Calendar.{civil, day};
 ghost use Rattle.calendar.specs.Cycle.{YearStarts};

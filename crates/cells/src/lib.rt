@@ -1,4 +1,6 @@
 // An answer as a status and cells: the one place that writes what a caller lent, but for the cells of a whole column.
+#![tactic(auto)]
+
 ghost use Rattle.std.specs.Prelude.{◌≡◌};
 ghost use Rattle.refusal.specs.Outcome.{outcome32, outcome64, number_of};
 ghost use Rattle.rule.specs.Meaning.{day_time_of};

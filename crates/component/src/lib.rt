@@ -1,4 +1,6 @@
 // One component of an interval text: an amount and its unit, read at a place.
+#![tactic(auto)]
+
 ghost use Rattle.amount.specs.Grammar.{precision};
 ghost use Rattle.component.specs.Read.{taken_is};
 

@@ -1,5 +1,7 @@
 // Counts of months, of days, of nanoseconds and of milliseconds, which never pass for one another: each is made of a number once, and added
 // to its own kind alone.
+#![tactic(auto)]
+
 ghost use Rattle.std.specs.Prelude.{◌≡◌, ◌+ℤ◌};
 ghost use Rattle.number.specs.Widths.{fit, int32, int64};
 ghost use Rattle.count.specs.Read.{maybe_months, maybe_days, maybe_nanos, maybe_millis};

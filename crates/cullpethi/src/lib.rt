@@ -1,5 +1,7 @@
 // The C interface: each function returns 0 and writes its cells, or returns a refusal's number and writes nothing but, where there is one, the
 // cell that tells where (`index` of a column, `place` of an interval).
+#![tactic(auto)]
+
 ghost use Rattle.column.specs.Columns.{column};
 ghost use Rattle.column.specs.declared.Column.TheVariants.{TimestampNanosecond, TimestampMicrosecond, TimestampMillisecond, TimestampSecond, Time64Nanosecond, Time64Microsecond, Time32Millisecond, Time32Second, Date32, Date64};
 ghost use Rattle.amount.specs.Grammar.{precision};

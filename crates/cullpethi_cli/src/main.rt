@@ -1,5 +1,7 @@
 // The command line: reads a text, or each line of standard input, by the reader that is named, and writes the counts or the refusal.
 // A program has no exit status of its own, so behind `--status` it is written to descriptor 3, for the script that starts it.
+#![tactic(auto)]
+
 use names::{Named, Reader};
 use place::MaybePlace;
 use words::Words;

@@ -1,4 +1,6 @@
 // Dates.
+#![tactic(auto)]
+
 use refusal::Refusal;
 
 pub mod days;

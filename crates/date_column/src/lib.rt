@@ -1,4 +1,6 @@
 // Date columns. Each `parse` makes the table of year starts and lends it to its `parse_with`.
+#![tactic(auto)]
+
 ghost use Rattle.std.specs.Prelude.{◌≡◌, ◌≤◌, length, pos, ◌*ℤ◌};
 ghost use Rattle.std.specs.Int.Signed.{mag};
 ghost use Rattle.calendar.specs.Cycle.{YearStarts};

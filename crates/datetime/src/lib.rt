@@ -1,4 +1,6 @@
 // A day with a time of it, and the instant that they name.
+#![tactic(auto)]
+
 ghost use Rattle.std.specs.Prelude.{◌≡◌, pos, ◌+ℤ◌, ◌*ℤ◌};
 ghost use Rattle.number.specs.Widths.{fit, int64};
 ghost use Rattle.datetime.specs.Moment.{instant, moment_of};

@@ -1,4 +1,6 @@
 // Intervals: amounts with their units, in the text form of PostgreSQL's interval input.
+#![tactic(auto)]
+
 ghost use Rattle.std.specs.Prelude.{◌≡◌};
 ghost use Rattle.amount.specs.Grammar.{precision};
 ghost use Rattle.unit.specs.declared.IntervalUnit.TheVariants.{Year, Month, Day};

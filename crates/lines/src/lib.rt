@@ -1,4 +1,6 @@
 // Lines as the programs read them. Reading itself stays in the programs: no contract can say what is read.
+#![tactic(auto)]
+
 pub mod escape;
 pub mod input;
 pub mod names;

@@ -1,5 +1,7 @@
 // A column's texts read at once: document 02's whole columns. The texts are read twice, once to see that all are accepted and once to
 // store their values, so that no cell is touched while one may still be refused.
+#![tactic(auto)]
+
 ghost use Rattle.std.specs.Prelude.{◌≡◌, length};
 ghost use Rattle.column.specs.Columns.{column as reads};
 ghost use Rattle.calendar.specs.Cycle.{YearStarts};

@@ -1,4 +1,6 @@
 // The Rust's `TimestampParser`, over the text itself: its bytes less 48, wrapping, by their places.
+#![tactic(auto)]
+
 ghost use Rattle.std.specs.Prelude.{◌≡◌, ◌+◌, ◌≤◌, ◌<◌, length, drop};
 ghost use Rattle.calendar.specs.Calendar.{day};
 ghost use Rattle.calendar.specs.Cycle.{YearStarts};

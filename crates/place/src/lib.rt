@@ -1,4 +1,6 @@
 // Why an interval text is refused, and where.
+#![tactic(auto)]
+
 ghost use Rattle.std.specs.Prelude.{◌≡◌, cond};
 ghost use Rattle.std.proofs.Math.Option.{none, some};
 ghost use Rattle.refusal.specs.Outcome.{number_of, number_in};

@@ -1,5 +1,7 @@
 // Reads lines `READER TEXT` from standard input and writes each with its answer. In a text `\xHH` is a byte. An empty line and one
 // that begins with # are written as they are.
+#![tactic(auto)]
+
 mod answer;
 mod columns;
 mod input;

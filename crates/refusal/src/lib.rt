@@ -1,4 +1,6 @@
 // Why a text is refused: the list of document 01, in checking order; and behind it why a whole call is (document 02).
+#![tactic(auto)]
+
 ghost use Rattle.std.specs.Prelude.{◌≡◌};
 ghost use Rattle.refusal.specs.Outcome.{number_of, number_in};
 

@@ -1,5 +1,7 @@
 // Reads lines `READER ANSWER TEXT` from standard input, the Rust's answers (`oracle/run stored`), and compares each with the library's.
 // Writes each line that differs with what was found, and at the end how many passed and failed.
+#![tactic(auto)]
+
 mod answer;
 mod input;
 mod line;

@@ -1,5 +1,7 @@
 // Lines that are written: bytes and numbers put behind others, into a room that the caller lends.
 // Writing itself stays in the programs: no contract can say what is written.
+#![tactic(auto)]
+
 ghost use Rattle.std.specs.Prelude.{◌≡◌, min, length, take};
 ghost use Rattle.io.specs.Counts.{IsPrefixLen};
 ghost use Rattle.room.specs.Decimal.{decimal, signed_text};

@@ -1,4 +1,6 @@
 // The site stamp: `2026-03-01T06:30:00Z`, with a point and 1 to 9 digits behind the seconds if need be.
+#![tactic(auto)]
+
 ghost use Rattle.std.specs.Prelude.{◌≡◌, cond};
 ghost use Rattle.calendar.specs.Cycle.{YearStarts};
 ghost use Rattle.refusal.specs.Outcome.{accepted, refused, outcome64};

@@ -1,4 +1,6 @@
 // Timestamp columns: nanoseconds divided toward zero. Each `parse` makes the table of year starts and lends it to its `parse_with`.
+#![tactic(auto)]
+
 ghost use Rattle.std.specs.Prelude.{◌≡◌};
 ghost use Rattle.calendar.specs.Cycle.{YearStarts};
 ghost use Rattle.refusal.specs.Attempts.{retried};

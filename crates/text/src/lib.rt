@@ -1,4 +1,6 @@
 // The text under every reader: bytes, their digits, and trimming.
+#![tactic(auto)]
+
 ghost use Rattle.std.specs.Prelude.{◌≡◌, slice_index};
 
 pub mod digits;

@@ -1,4 +1,6 @@
 // Time columns: a time, its nanoseconds divided toward zero; failing a time, the text as given as an integer, taken undivided.
+#![tactic(auto)]
+
 ghost use Rattle.std.specs.Prelude.{◌≡◌, true, ◌≤◌};
 ghost use Rattle.number.specs.Decimal.{integer};
 ghost use Rattle.number.specs.Widths.{int64};

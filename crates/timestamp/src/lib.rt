@@ -1,4 +1,6 @@
 // Stamps: RFC 3339 timestamps in UTC, and the forms close to them that the Rust reads.
+#![tactic(auto)]
+
 use datetime::NaiveDateTime;
 use refusal::Refusal;
 

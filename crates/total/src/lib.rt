@@ -1,4 +1,6 @@
 // What the components of an interval text add up to: months, days and nanoseconds.
+#![tactic(auto)]
+
 ghost use Rattle.std.specs.Prelude.{◌≡◌};
 
 use count::{Days, Months, Nanos};

@@ -1,4 +1,6 @@
 // The units of an interval: their spellings and their numbers.
+#![tactic(auto)]
+
 ghost use Rattle.std.specs.Prelude.{◌≡◌};
 ghost use Rattle.unit.specs.Units.{or_else};
 ghost use Rattle.unit.specs.Read.{unit_read};

@@ -1,4 +1,6 @@
 // White space: Unicode's White_Space property, in UTF-8.
+#![tactic(auto)]
+
 ghost use Rattle.std.specs.Prelude.{◌≡◌, ◌-◌, ◌≤◌, length, drop};
 ghost use Rattle.white.specs.WhiteSpace.{white1, white2, white3, white_of, white_len};
 

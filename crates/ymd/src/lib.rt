@@ -1,4 +1,6 @@
 // Dates that are no stamps: with a sign, or of at most 10 bytes.
+#![tactic(auto)]
+
 ghost use Rattle.std.specs.Prelude.{◌≡◌};
 ghost use Rattle.calendar.specs.Calendar.{day};
 ghost use Rattle.calendar.specs.Cycle.{YearStarts};

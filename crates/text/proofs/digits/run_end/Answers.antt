@@ -1,0 +1,15 @@
+use Rattle.std.proofs.Common.{◌≡◌, ◌+◌, ◌-◌, ◌≤◌, length, drop, arith, rules}
+use Rattle.text.specs.Digits.{run}
+use Rattle.text.proofs.DigitLaws.{run_on, run_off, run_end}
+use Rattle.text.proofs.digits.run_end.Goals as goal
+
+pub returns-then-digit-ge10 : goal.returns-then-digit-ge10
+returns-then-digit-ge10 c = let s = c.args.s.now in
+    (omega (arith, run_off s c.loop-i.i c.digit.result c.loop-i-test.true (c.type_inv.s c.loop-i.i).fits c.digit.ensures c.if-digit-ge10.true), c.loop-i.invariant.1)
+
+pub loop-i-preserved : goal.loop-i-preserved
+loop-i-preserved c = let s = c.args.s.now in
+    (search rules, λ h. omega arith, omega (arith, run_on s c.loop-i.i c.digit.result c.loop-i-test.true (c.type_inv.s c.loop-i.i).fits c.digit.ensures c.if-digit-ge10.false))
+
+pub returns : goal.returns
+returns c = (omega (arith, run_end c.args.s.now c.loop-i.i c.loop-i-test.false), c.loop-i.invariant.1)
