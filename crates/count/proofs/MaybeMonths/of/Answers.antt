@@ -5,4 +5,4 @@ use mir.Facts.{to_z-of_z}
 use Rattle.count.proofs.MaybeMonths.of.Goals as goal
 
 pub returns-in-Some : goal.returns-in-Some
-returns-in-Some c = rw (c.in-Some.is, to_z-of_z {w = w32} (record { sfits = (search rules) }))
+returns-in-Some c = rw (c.in-Some.is, to_z-of_z {w = w32} {z = c.in-Some.n} (record { sfits = (search rules) }))

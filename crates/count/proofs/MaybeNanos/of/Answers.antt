@@ -5,4 +5,4 @@ use mir.Facts.{to_z-of_z}
 use Rattle.count.proofs.MaybeNanos.of.Goals as goal
 
 pub returns-in-Some : goal.returns-in-Some
-returns-in-Some c = rw (c.in-Some.is, to_z-of_z {w = w64} (record { sfits = (search rules) }))
+returns-in-Some c = rw (c.in-Some.is, to_z-of_z {w = w64} {z = c.in-Some.n} (record { sfits = (search rules) }))

@@ -1,0 +1,17 @@
+-- `amount::amount_at` meets its contract, by the laws of a sign; nothing stands past the end. Assumes nothing.
+use borrow.Author.Rules.{rules}
+use mathlib.Core.Path.{refl}
+use mathlib.Core.Logic.{⊎_elim}
+use native.Mathlib.Omega.{arith}
+use Rattle.amount.specs.Grammar.{precision}
+use Rattle.amount.specs.Read.{amount_is}
+use Rattle.amount.proofs.AmountLaws.{past_text}
+use Rattle.amount.proofs.Amounts.{sign_minus, sign_none}
+use Rattle.amount.proofs.amount_at.Goals as goal
+
+pub returns-then-text-at : goal.returns-then-text-at
+unfolding amount_is
+returns-then-text-at c = (past_text precision c.args.text.now c.args.at (omega (arith, c.if-text-at.true)), refl)
+
+pub unsigned_at-requires : goal.unsigned_at-requires
+unsigned_at-requires c = ⊎_elim (λ w. sign_minus c.args.text.now c.args.at c.byte_at-neg.ensures w.0.taken w.1) (λ w. sign_none c.args.text.now c.args.at c.byte_at-neg.ensures (omega (arith, c.if-text-at.false)) w.0.left w.1) c.if-neg.branch

@@ -1,0 +1,20 @@
+-- `clock::parse_nanos` meets its contract. The loop's invariant: the digits from i on, behind the number of those before, are what all
+-- count, and with those before as many as all. The measure is what is left of nine. Assumes nothing.
+use mathlib.Core.Path.{◌≡◌, refl, sym, ◌∙◌}
+use mathlib.Core.List.{List}
+use Prim.Native.Nat.{ℕ, ◌+◌, ◌*◌, ◌-◌, ◌≤◌, ◌<◌}
+use native.Mathlib.Omega.{arith}
+use lib.ListN.{get_or, length, drop}
+use borrow.Author.Rules.{rules}
+use Rattle.text.specs.Digits.{digit_of, run}
+use Rattle.text.proofs.Runs.{run_digits}
+use Rattle.clock.specs.Clock.{nanos_of}
+use Rattle.clock.proofs.Bounds.{nanos_below}
+use Rattle.clock.proofs.Nanos.{behind, led, all_counted, grows_behind, inside, ends_here, goes_on, no_digit_here, digit_here}
+use Rattle.clock.proofs.parse_nanos.Given as goal
+
+abbrev pub invariant-loop-i : goal.invariant-loop-i
+invariant-loop-i l = (l.i ≤ 9) × (behind (9 - l.i) l.nanos (led (drop l.i l.s)) ≡ nanos_of (led l.s)) × (l.i ≤ length l.s) × (l.i + run (drop l.i l.s) ≡ run l.s)
+
+abbrev pub decreases-loop-i : goal.decreases-loop-i
+decreases-loop-i l = 9 - l.i
