@@ -20,16 +20,19 @@ loop-i-preserved c = let M = letter_more c.args.text.now c.args.from c.loop-i.i 
     (omega arith, M.inside, omega (arith, M.most), M.packed)
 
 pub overflow_add-key : goal.overflow_add-key
-overflow_add-key c = omega (arith, ((let M = letter_more c.args.text.now c.args.from c.loop-i.i c.loop-i.key c.loop-i.invariant.0 c.loop-i-test.true c.loop-i.invariant.3 c.letter_at-letter.ensures c.if-code-eq0.false in
-    (omega arith, M.inside, omega (arith, M.most), M.packed))).2)
+overflow_add-key c =
+    let M = letter_more c.args.text.now c.args.from c.loop-i.i c.loop-i.key c.loop-i.invariant.0 c.loop-i-test.true c.loop-i.invariant.3 c.letter_at-letter.ensures c.if-code-eq0.false in
+    omega (arith, M.most)
 
 pub overflow_add-i : goal.overflow_add-i
-overflow_add-i c = omega (arith, ((let M = letter_more c.args.text.now c.args.from c.loop-i.i c.loop-i.key c.loop-i.invariant.0 c.loop-i-test.true c.loop-i.invariant.3 c.letter_at-letter.ensures c.if-code-eq0.false in
-    (omega arith, M.inside, omega (arith, M.most), M.packed))).1)
+overflow_add-i c =
+    let M = letter_more c.args.text.now c.args.from c.loop-i.i c.loop-i.key c.loop-i.invariant.0 c.loop-i-test.true c.loop-i.invariant.3 c.letter_at-letter.ensures c.if-code-eq0.false in
+    omega (arith, M.inside)
 
 pub loop-i-smaller : goal.loop-i-smaller
-loop-i-smaller c = omega (arith, (letter_more c.args.text.now c.args.from c.loop-i.i c.loop-i.key c.loop-i.invariant.0 c.loop-i-test.true c.loop-i.invariant.3 c.letter_at-letter.ensures c.if-code-eq0.false).further, ((let M = letter_more c.args.text.now c.args.from c.loop-i.i c.loop-i.key c.loop-i.invariant.0 c.loop-i-test.true c.loop-i.invariant.3 c.letter_at-letter.ensures c.if-code-eq0.false in
-    (omega arith, M.inside, omega (arith, M.most), M.packed))).1)
+loop-i-smaller c =
+    let M = letter_more c.args.text.now c.args.from c.loop-i.i c.loop-i.key c.loop-i.invariant.0 c.loop-i-test.true c.loop-i.invariant.3 c.letter_at-letter.ensures c.if-code-eq0.false in
+    omega (arith, M.further, M.inside)
 
 pub returns : goal.returns
 returns c = record { start = c.loop-i.invariant.0; inside = c.loop-i.invariant.1; packed = c.loop-i.invariant.3; longest = λ n p q. absurd (omega arith) }
