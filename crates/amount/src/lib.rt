@@ -7,14 +7,14 @@ ghost use Rattle.amount.specs.Read.{amount_is};
 mod parts;
 
 // An amount: its whole part, and its fraction times ten to the limit of fraction digits; both carry the sign.
-#[derive(Drop)]
+#[derive(Clone, Copy)]
 pub struct IntervalAmount {
     pub integer: i64,
     pub frac: i64,
 }
 
 // The amount at a place, and where it ends; or none, and that place.
-#[derive(Drop)]
+#[derive(Clone, Copy)]
 pub enum AmountRead {
     Read(IntervalAmount, usize),
     Bad(usize),

@@ -9,7 +9,7 @@ use crate::{AmountRead, IntervalAmount};
 use number::Int64;
 
 // Digits of a text as a number, and where they end.
-#[derive(Drop)]
+#[derive(Clone, Copy)]
 pub struct Number {
     pub value: u64,
     pub next: usize,

@@ -43,7 +43,7 @@ pub const STARTS: [u32; 401] = [
 pub const EPOCH: i64 = 784_353_144_398;
 
 // A year of the cycle: the day that it starts on, and its days.
-#[derive(Drop)]
+#[derive(Clone, Copy)]
 pub struct Year {
     pub start: u32,
     pub days: u32,

@@ -8,7 +8,7 @@ ghost use Rattle.calendar.specs.Cycle.{YearStarts};
 mod cycle;
 
 // The day number of a date, counted from 1970-01-01; it may need more than 32 bits. None where the calendar has no such day.
-#[derive(Drop)]
+#[derive(Clone, Copy)]
 pub enum Day {
     Number(i64),
     None,

@@ -7,21 +7,21 @@ ghost use Rattle.text.specs.Digits.{run};
 ghost use Rattle.clock.specs.Clock.{in_range, nanos_of, time_is};
 
 // A time of day: seconds since midnight, and nanoseconds. Second 60 is second 59 with 1,000,000,000 added to the nanoseconds.
-#[derive(Drop)]
+#[derive(Clone, Copy)]
 pub struct NaiveTime {
     pub secs: u32,
     pub frac: u32,
 }
 
 // A time of day, or none.
-#[derive(Drop)]
+#[derive(Clone, Copy)]
 pub enum Time {
     At(NaiveTime),
     None,
 }
 
 // The digits of a fraction: what they count, and how many they are.
-#[derive(Drop)]
+#[derive(Clone, Copy)]
 pub struct Secfrac {
     pub nanos: u32,
     pub digits: usize,

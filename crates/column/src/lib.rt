@@ -4,7 +4,7 @@
 
 
 // Document 01's ten, in the order of their numbers.
-#[derive(Drop)]
+#[derive(Clone, Copy)]
 pub enum Column {
     TimestampNanosecond,
     TimestampMicrosecond,

@@ -13,7 +13,7 @@ mod split;
 // The component at a place: none, and where its amount or its unit cannot be read; one that ends the text; or one with its unit and the
 // place behind the white space that follows.
 // No unit stands for the default.
-#[derive(Drop)]
+#[derive(Clone, Copy)]
 pub enum Piece {
     Bad(usize),
     Last(IntervalAmount, UnitRead),
@@ -21,7 +21,7 @@ pub enum Piece {
 }
 
 // What a reader takes: the component at its place, and the place where it stands behind it.
-#[derive(Drop)]
+#[derive(Clone, Copy)]
 pub struct Taken {
     pub piece: Piece,
     pub at: usize,

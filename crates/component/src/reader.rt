@@ -7,7 +7,7 @@ ghost use Rattle.component.specs.Read.{piece_is, place_after, taken_is};
 use crate::{Piece, Taken, split};
 
 // A lent text, and a place in it.
-#[derive(Drop)]
+#[derive(Clone, Copy)]
 pub struct Reader<'a> {
     pub text: &'a [u8],
     pub at: usize,

@@ -9,44 +9,44 @@ ghost use Rattle.count.specs.Read.{maybe_months, maybe_days, maybe_nanos, maybe_
 use number::{Int32, Int64, checked};
 
 // A count of months.
-#[derive(Drop)]
+#[derive(Clone, Copy)]
 pub struct Months(pub i32);
 
 // A count of days.
-#[derive(Drop)]
+#[derive(Clone, Copy)]
 pub struct Days(pub i32);
 
 // A count of nanoseconds.
-#[derive(Drop)]
+#[derive(Clone, Copy)]
 pub struct Nanos(pub i64);
 
 // A count of milliseconds.
-#[derive(Drop)]
+#[derive(Clone, Copy)]
 pub struct Millis(pub i32);
 
 // Months, where they fit; none is a number that does not.
-#[derive(Drop)]
+#[derive(Clone, Copy)]
 pub enum MaybeMonths {
     Some(Months),
     None,
 }
 
 // Days, where they fit.
-#[derive(Drop)]
+#[derive(Clone, Copy)]
 pub enum MaybeDays {
     Some(Days),
     None,
 }
 
 // Nanoseconds, where they fit.
-#[derive(Drop)]
+#[derive(Clone, Copy)]
 pub enum MaybeNanos {
     Some(Nanos),
     None,
 }
 
 // Milliseconds, where they fit.
-#[derive(Drop)]
+#[derive(Clone, Copy)]
 pub enum MaybeMillis {
     Some(Millis),
     None,

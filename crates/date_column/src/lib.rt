@@ -19,10 +19,10 @@ use text::trim::trim_pre_and_post_whitespace;
 use timestamp::DateTime;
 use timestamp::stamp::string_to_datetime;
 
-#[derive(Drop)]
+#[derive(Clone, Copy)]
 pub struct Date32Type {}
 
-#[derive(Drop)]
+#[derive(Clone, Copy)]
 pub struct Date64Type {}
 
 impl Date32Type {

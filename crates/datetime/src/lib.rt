@@ -9,7 +9,7 @@ use clock::NaiveTime;
 use number::Int64;
 
 // A day, counted from 1970-01-01, and a time of it.
-#[derive(Drop)]
+#[derive(Clone, Copy)]
 pub struct NaiveDateTime {
     pub day: i64,
     pub time: NaiveTime,

@@ -19,28 +19,28 @@ use unit::IntervalUnit;
 mod narrow;
 
 // Days and milliseconds.
-#[derive(Drop)]
+#[derive(Clone, Copy)]
 pub struct IntervalDayTime {
     pub days: Days,
     pub millis: Millis,
 }
 
 // Days and milliseconds, or none.
-#[derive(Drop)]
+#[derive(Clone, Copy)]
 pub enum MaybeDayTime {
     Some(IntervalDayTime),
     None,
 }
 
 // A reader's answer of months.
-#[derive(Drop)]
+#[derive(Clone, Copy)]
 pub enum YearMonthRead {
     Value(Months),
     Refused(IntervalRefusal),
 }
 
 // A reader's answer of days and milliseconds.
-#[derive(Drop)]
+#[derive(Clone, Copy)]
 pub enum DayTimeRead {
     Value(IntervalDayTime),
     Refused(IntervalRefusal),

@@ -7,21 +7,21 @@ pub mod quotient;
 pub mod sign;
 
 // A number of 32 signed bits, or none: Rust's `Option<i32>`.
-#[derive(Drop)]
+#[derive(Clone, Copy)]
 pub enum Int32 {
     Some(i32),
     None,
 }
 
 // A number of 64 signed bits, or none.
-#[derive(Drop)]
+#[derive(Clone, Copy)]
 pub enum Int64 {
     Some(i64),
     None,
 }
 
 // A number of 32 bits, or none.
-#[derive(Drop)]
+#[derive(Clone, Copy)]
 pub enum Nat32 {
     Some(u32),
     None,

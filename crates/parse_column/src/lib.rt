@@ -26,7 +26,7 @@ pub mod numbers;
 mod texts;
 
 // What a column answers: every text accepted, or the first refused one and its index, or why no text was read.
-#[derive(Drop)]
+#[derive(Clone, Copy)]
 pub enum ColumnRead {
     Accepted,
     Refused(Refusal, usize),

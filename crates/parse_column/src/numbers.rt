@@ -5,7 +5,7 @@ ghost use Rattle.parse_column.specs.Numbers.{column_numbered, column_named};
 use column::Column;
 
 // The column that a number names, or none.
-#[derive(Drop)]
+#[derive(Clone, Copy)]
 pub enum ColumnNamed {
     Column(Column),
     None,

@@ -9,7 +9,7 @@ use crate::parse;
 use column::Column;
 use refusal::{Read64, Refusal};
 
-#[derive(Drop)]
+#[derive(Clone, Copy)]
 pub enum FirstRefused {
     None,
     At(Refusal, usize),

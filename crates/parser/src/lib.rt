@@ -13,7 +13,7 @@ use text::byte_at;
 use text::digits::{COLON, HYPHEN, POINT, digit, two};
 
 // A time of day in a text and the place where it ends, or none.
-#[derive(Drop)]
+#[derive(Clone, Copy)]
 pub enum TimeAndEnd {
     At(NaiveTime, usize),
     None,

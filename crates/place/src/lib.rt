@@ -10,7 +10,7 @@ ghost use Rattle.place.specs.Read.{refusal_of, place_in, maybe_place};
 use refusal::Refusal;
 
 // A refusal of an interval text: 8, 9 and 10 have a place, counted in bytes of the text, and 1 and 11 have none.
-#[derive(Drop)]
+#[derive(Clone, Copy)]
 pub enum IntervalRefusal {
     // The bytes are not well-formed UTF-8.
     NotUtf8,
@@ -25,7 +25,7 @@ pub enum IntervalRefusal {
 }
 
 // A place, or none.
-#[derive(Drop)]
+#[derive(Clone, Copy)]
 pub enum MaybePlace {
     Some(usize),
     None,

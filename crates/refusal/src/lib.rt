@@ -4,7 +4,7 @@
 ghost use Rattle.std.specs.Prelude.{◌≡◌};
 ghost use Rattle.refusal.specs.Outcome.{number_of, number_in};
 
-#[derive(Drop)]
+#[derive(Clone, Copy)]
 pub enum Refusal {
     // The bytes are not well-formed UTF-8.
     NotUtf8,
@@ -35,14 +35,14 @@ pub enum Refusal {
 }
 
 // A reader's answer of 64 bits.
-#[derive(Drop)]
+#[derive(Clone, Copy)]
 pub enum Read64 {
     Value(i64),
     Refused(Refusal),
 }
 
 // A reader's answer of 32 bits.
-#[derive(Drop)]
+#[derive(Clone, Copy)]
 pub enum Read32 {
     Value(i32),
     Refused(Refusal),

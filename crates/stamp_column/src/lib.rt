@@ -14,16 +14,16 @@ use timestamp::stamp::string_to_timestamp_nanos_with;
 
 mod units;
 
-#[derive(Drop)]
+#[derive(Clone, Copy)]
 pub struct TimestampNanosecondType {}
 
-#[derive(Drop)]
+#[derive(Clone, Copy)]
 pub struct TimestampMicrosecondType {}
 
-#[derive(Drop)]
+#[derive(Clone, Copy)]
 pub struct TimestampMillisecondType {}
 
-#[derive(Drop)]
+#[derive(Clone, Copy)]
 pub struct TimestampSecondType {}
 
 // The nanoseconds of the text as given, then of the trimmed text.

@@ -14,7 +14,7 @@ use text::byte_at;
 use text::digits::{COLON, POINT, digit, two};
 
 // The half of the day that a time names.
-#[derive(Drop)]
+#[derive(Clone, Copy)]
 pub enum Half {
     Am,
     Pm,
@@ -22,14 +22,14 @@ pub enum Half {
 }
 
 // An hour of the day, or none.
-#[derive(Drop)]
+#[derive(Clone, Copy)]
 pub enum Hour {
     Of(u8),
     None,
 }
 
 // Nanoseconds of a fraction, or none.
-#[derive(Drop)]
+#[derive(Clone, Copy)]
 pub enum Fraction {
     Of(u32),
     None,

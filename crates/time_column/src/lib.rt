@@ -16,20 +16,20 @@ use refusal::{Read32, Read64, Refusal};
 use text::trim::trim_pre_and_post_whitespace;
 use time::string_to_time_nanoseconds;
 
-#[derive(Drop)]
+#[derive(Clone, Copy)]
 pub struct Time64NanosecondType {}
 
-#[derive(Drop)]
+#[derive(Clone, Copy)]
 pub struct Time64MicrosecondType {}
 
-#[derive(Drop)]
+#[derive(Clone, Copy)]
 pub struct Time32MillisecondType {}
 
-#[derive(Drop)]
+#[derive(Clone, Copy)]
 pub struct Time32SecondType {}
 
 // What a time column finds: a time in nanoseconds, an integer of its width, or neither.
-#[derive(Drop)]
+#[derive(Clone, Copy)]
 pub enum Found {
     Time(i64),
     Integer(i64),

@@ -7,7 +7,7 @@ use refusal::Refusal;
 pub mod stamp;
 
 // What a stamp names.
-#[derive(Drop)]
+#[derive(Clone, Copy)]
 pub enum DateTime {
     At(NaiveDateTime),
     Refused(Refusal),

@@ -17,14 +17,14 @@ use place::IntervalRefusal;
 use unit::IntervalUnit;
 
 // Whether a unit came again, and where the first component begins with which one did.
-#[derive(Drop)]
+#[derive(Clone, Copy)]
 pub enum Repeated {
     No,
     At(usize),
 }
 
 // The running totals; or where the first component begins with which a contribution or a total did not fit.
-#[derive(Drop)]
+#[derive(Clone, Copy)]
 pub enum Totals {
     Fit(Interval),
     Over(usize),

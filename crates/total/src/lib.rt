@@ -11,7 +11,7 @@ mod components;
 mod contributions;
 
 // The three counts of an interval, which never pass for one another.
-#[derive(Drop)]
+#[derive(Clone, Copy)]
 pub struct Interval {
     pub months: Months,
     pub days: Days,
@@ -19,21 +19,21 @@ pub struct Interval {
 }
 
 // Counts, where they fit.
-#[derive(Drop)]
+#[derive(Clone, Copy)]
 pub enum Sum {
     Fits(Interval),
     Over,
 }
 
 // A reader's answer of months, days and nanoseconds.
-#[derive(Drop)]
+#[derive(Clone, Copy)]
 pub enum IntervalRead {
     Value(Interval),
     Refused(IntervalRefusal),
 }
 
 // The unit of a last component that has none.
-#[derive(Drop)]
+#[derive(Clone, Copy)]
 pub struct IntervalParseConfig {
     pub default_unit: IntervalUnit,
 }

@@ -7,14 +7,14 @@ ghost use Rattle.unit.specs.Read.{unit_read};
 use crate::{IntervalUnit, UnitRead};
 
 // A letter of a unit word: 1 for a to 26 for z, 0 where it is none; and how many bytes it takes.
-#[derive(Drop)]
+#[derive(Clone, Copy)]
 pub struct Letter {
     pub code: u64,
     pub width: usize,
 }
 
 // Letters of a text, packed as digits of base 32, and where they end.
-#[derive(Drop)]
+#[derive(Clone, Copy)]
 pub struct Letters {
     pub key: u64,
     pub end: usize,

@@ -10,7 +10,7 @@ pub mod numbers;
 pub mod words;
 
 // The units of an interval.
-#[derive(Drop)]
+#[derive(Clone, Copy)]
 pub enum IntervalUnit {
     Century,
     Decade,
@@ -27,14 +27,14 @@ pub enum IntervalUnit {
 }
 
 // The unit that a word spells, or none.
-#[derive(Drop)]
+#[derive(Clone, Copy)]
 pub enum UnitRead {
     Unit(IntervalUnit),
     None,
 }
 
 // The unit word at a place: none, and that place; one that ends the text; or one and the place behind the white space that follows.
-#[derive(Drop)]
+#[derive(Clone, Copy)]
 pub enum WordRead {
     None(usize),
     Last(IntervalUnit),

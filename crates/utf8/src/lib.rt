@@ -7,7 +7,7 @@ ghost use Rattle.utf8.specs.Utf8.{utf8, ascii};
 mod rows;
 
 // The bytes of a character still to come: how many, and the range of the next; the later ones are 80 to BF.
-#[derive(Drop)]
+#[derive(Clone, Copy)]
 pub struct Follow {
     pub count: u8,
     pub low: u8,

@@ -31,6 +31,7 @@ unfolding in_order
 ordered n from end ends h k e = rw (within_yes from end n h k, e) refl
 
 not_bad : (n from : ℕ) (ends : List ℕ) → in_order n from ends ≡ true → FallOrPass n from ends → ⊥
+not_bad n from [] e h = elim h [ ]
 not_bad n from (end ∷ ends) e (falls h) = omega (arith, (in_order_lem n from end ends e).0.0, h)
 not_bad n from (end ∷ ends) e (passes h) = omega (arith, (in_order_lem n from end ends e).0.1, h)
 not_bad n from (end ∷ ends) e (later b) = not_bad n end ends (in_order_lem n from end ends e).1 b

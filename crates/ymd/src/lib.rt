@@ -16,7 +16,7 @@ mod extended;
 mod short;
 
 // The year, the month and the day that a text writes, or none.
-#[derive(Drop)]
+#[derive(Clone, Copy)]
 pub enum Ymd {
     Of(i32, u32, u32),
     None,

@@ -11,7 +11,7 @@ use text::byte_at;
 use text::digits::{HYPHEN, digit, two};
 
 // The place where a day begins, behind a century, a year and a month; or none.
-#[derive(Drop)]
+#[derive(Clone, Copy)]
 pub enum BeforeDay {
     At(usize, u8, u8, u8),
     None,

@@ -9,7 +9,7 @@ pub last_day-requires : goal.last_day-requires
 last_day-requires c =
     let found : before_is c.args.s.now (DayAt c.in-At.at c.in-At.century c.in-At.year c.in-At.month) = subst (before_is c.args.s.now) c.in-At.is
     c.before_day.ensures in
-    (c.requires, (found).0)
+    record { year_starts = c.requires; at_bound = (found).0 }
 
 pub returns-in-At : goal.returns-in-At
 returns-in-At c =

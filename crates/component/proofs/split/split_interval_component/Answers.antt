@@ -1,0 +1,20 @@
+-- `component::split::split_interval_component` meets its contract: an amount and what follows it, or no amount. Assumes nothing.
+use borrow.Author.Rules.{rules}
+use mathlib.Core.Path.{◌∙◌}
+use native.Mathlib.Omega.{arith}
+use lib.ListN.{drop}
+use Rattle.amount.specs.Grammar.{precision}
+use Rattle.component.specs.Read.{piece_is}
+use Rattle.amount.specs.Read.{amount_is}
+use Rattle.component.proofs.Steps.{no_amount}
+use Rattle.component.proofs.Faults.{no_amount_fault}
+use Rattle.component.proofs.split.split_interval_component.Goals as goal
+
+pub unit_at-requires : goal.unit_at-requires
+unfolding amount_is
+unit_at-requires c = rw c.in-Read.is at c.amount_at.ensures
+
+pub returns-in-Bad : goal.returns-in-Bad
+unfolding amount_is piece_is
+returns-in-Bad c = let n = rw c.in-Bad.is at c.amount_at.ensures in
+    (no_amount precision c.args.text.now c.args.at n.0, n.1 ∙ omega (arith, no_amount_fault precision (drop c.args.at c.args.text.now) n.0))
