@@ -156,7 +156,7 @@ words_sound (suc j) p t h =
     (λ e. let l = leb-false (length t) (word_len t) e in rw (by_more j p t l) (go_on p t (goes t l) (words_sound j (p + next t) (drop (next t) t) (omega (arith, h, (goes t l).shorter)))))
 
 -- words are the ones computed
-words_complete : {p : ℕ} {t : List ℕ} {l : List Piece} (j : ℕ) → Words p t l → length t < j → words_by j p t ≡ l
+words_complete : (j : ℕ) {p : ℕ} {t : List ℕ} {l : List Piece} → Words p t l → length t < j → words_by j p t ≡ l
 words_complete zero R h = absurd (omega arith)
 words_complete (suc j) (last_word {p} {w} U) h =
     let n : word_len w ≡ length w = rw append-nil at (first_word w [] U at_end) in
