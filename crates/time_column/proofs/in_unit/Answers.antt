@@ -26,7 +26,7 @@ returns-in-Time c =
     rw (unit_is) (ap accepted (quot_is (nanos-fit) n)) ∙ sym (ap (found_is n) c.in-Time.is)
 
 pub returns-in-Integer : goal.returns-in-Integer
-returns-in-Integer c = back {z = c.in-Integer.z} (record { sfits = (search rules) })
+returns-in-Integer c = back {w = w64} {z = c.in-Integer.z} (record { sfits = (search rules) })
     (sym (ap (found_is c.args.unit) c.in-Integer.is))
 
 pub returns-in-Refused : goal.returns-in-Refused

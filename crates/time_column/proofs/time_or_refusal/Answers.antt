@@ -8,8 +8,8 @@ use borrow.Author.Rules.{rules}
 use Rattle.time_column.proofs.time_or_refusal.Goals as goal
 
 pub returns-in-Value : goal.returns-in-Value
-returns-in-Value c = in_nanos k {w = w64} {n = c.in-Value.nanos} (record { sfits = (search rules) })
+returns-in-Value c k = in_nanos k {w = w64} {n = c.in-Value.nanos} (record { sfits = (search rules) })
     (sym (ap outcome64 c.in-Value.is) ∙ c.string_to_time_nanoseconds.ensures)
 
 pub returns-in-Refused : goal.returns-in-Refused
-returns-in-Refused c = ap (divided k) (sym (ap outcome64 c.in-Refused.is) ∙ c.string_to_time_nanoseconds.ensures)
+returns-in-Refused c k = ap (divided k) (sym (ap outcome64 c.in-Refused.is) ∙ c.string_to_time_nanoseconds.ensures)

@@ -9,7 +9,7 @@ use Rattle.date.proofs.days.parse_date_to_days.Goals as goal
 
 pub returns-in-Day : goal.returns-in-Day
 returns-in-Day c = c.in_days.ensures ∙
-    rw (to_z-of_z {w = w64} {c = c.in-Day.z} (record { sfits = (search rules) }))
+    rw (to_z-of_z {w = w64} {z = c.in-Day.z} (record { sfits = (search rules) }))
     (onward (sym (ap named_is c.in-Day.is) ∙ c.parse_date.ensures))
 
 pub returns-in-Refused : goal.returns-in-Refused
