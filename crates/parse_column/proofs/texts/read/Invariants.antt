@@ -1,0 +1,26 @@
+-- `parse_column::texts::read` meets its contract. The loop's invariant: what the texts from here on give, all give. Assumes nothing.
+use mathlib.Core.Path.{◌≡◌, refl, sym, ap, ◌∙◌}
+use mathlib.Core.Bool.{true, cond}
+use mathlib.Core.Logic.{⊎_elim}
+use Prim.Native.Nat.{◌-◌, ◌≤◌, ◌<◌}
+use native.Mathlib.Omega.{arith}
+use lib.ListN.{length, drop}
+use borrow.Author.Rules.{rules}
+use mir.Syntax.{w32, w64}
+use mir.Facts.{Fits-widen}
+use Rattle.column.specs.Columns.{column as reading}
+use Rattle.whole_column.specs.Answer.{in_order, cut}
+use Rattle.refusal.specs.Outcome.{outcome64}
+use Rattle.refusal.proofs.Outcomes.{back}
+use Rattle.parse_column.proofs.Order.{next}
+use Rattle.parse_column.proofs.Turns.{goes_on, stops, keeps, none_left, none_stored, stored_one, stored_none, stored_all}
+use Rattle.parse_column.specs.Helpers.{refused_from, stored_from}
+use Rattle.parse_column.proofs.texts.read.Given as goal
+
+abbrev pub invariant-loop-i : goal.invariant-loop-i
+invariant-loop-i l = (l.i ≤ length l.ends) × (l.from ≤ length l.texts) × (in_order (length l.texts) l.from (drop l.i l.ends) ≡ true) × (length l.cells ≡ length l.initial.cells)
+    × (refused_from (reading l.column) 0 (cut l.texts 0 l.ends) ≡ refused_from (reading l.column) l.i (cut l.texts l.from (drop l.i l.ends)))
+    × (cond l.store (stored_from (reading l.column) 0 (cut l.texts 0 l.ends) l.initial.cells) l.initial.cells ≡ cond l.store (stored_from (reading l.column) l.i (cut l.texts l.from (drop l.i l.ends)) l.cells) l.cells)
+
+abbrev pub decreases-loop-i : goal.decreases-loop-i
+decreases-loop-i l = length l.ends - l.i
