@@ -43,112 +43,98 @@ use unit::UnitRead;
 use unit::numbers::unit_numbered;
 
 // A stamp, in nanoseconds since 1970-01-01.
-#[unsafe(no_mangle)]
-pub extern "C" fn cullpethi_string_to_timestamp_nanos(text: &[u8], nanos: &mut i64) -> u8
+pub fn cullpethi_string_to_timestamp_nanos(text: &[u8], nanos: &mut i64) -> u8
     ensures { Told (stamp_nanos text.now) result nanos.old nanos.new }
 {
     put64(string_to_timestamp_nanos(text), nanos)
 }
 
 // A time of day, in nanoseconds since midnight.
-#[unsafe(no_mangle)]
-pub extern "C" fn cullpethi_string_to_time_nanoseconds(text: &[u8], nanos: &mut i64) -> u8
+pub fn cullpethi_string_to_time_nanoseconds(text: &[u8], nanos: &mut i64) -> u8
     ensures { Told (time_nanos text.now) result nanos.old nanos.new }
 {
     put64(string_to_time_nanoseconds(text), nanos)
 }
 
 // A site stamp, in nanoseconds since 1970-01-01.
-#[unsafe(no_mangle)]
-pub extern "C" fn cullpethi_site_stamp(text: &[u8], nanos: &mut i64) -> u8
+pub fn cullpethi_site_stamp(text: &[u8], nanos: &mut i64) -> u8
     ensures { Told (site_nanos text.now) result nanos.old nanos.new }
 {
     put64(site_stamp(text), nanos)
 }
 
 // A timestamp column in nanoseconds.
-#[unsafe(no_mangle)]
-pub extern "C" fn cullpethi_parse_timestamp_nanosecond(text: &[u8], nanos: &mut i64) -> u8
+pub fn cullpethi_parse_timestamp_nanosecond(text: &[u8], nanos: &mut i64) -> u8
     ensures { Told (column TimestampNanosecond text.now) result nanos.old nanos.new }
 {
     put64(TimestampNanosecondType::parse(text), nanos)
 }
 
 // A timestamp column in microseconds.
-#[unsafe(no_mangle)]
-pub extern "C" fn cullpethi_parse_timestamp_microsecond(text: &[u8], micros: &mut i64) -> u8
+pub fn cullpethi_parse_timestamp_microsecond(text: &[u8], micros: &mut i64) -> u8
     ensures { Told (column TimestampMicrosecond text.now) result micros.old micros.new }
 {
     put64(TimestampMicrosecondType::parse(text), micros)
 }
 
 // A timestamp column in milliseconds.
-#[unsafe(no_mangle)]
-pub extern "C" fn cullpethi_parse_timestamp_millisecond(text: &[u8], millis: &mut i64) -> u8
+pub fn cullpethi_parse_timestamp_millisecond(text: &[u8], millis: &mut i64) -> u8
     ensures { Told (column TimestampMillisecond text.now) result millis.old millis.new }
 {
     put64(TimestampMillisecondType::parse(text), millis)
 }
 
 // A timestamp column in seconds.
-#[unsafe(no_mangle)]
-pub extern "C" fn cullpethi_parse_timestamp_second(text: &[u8], seconds: &mut i64) -> u8
+pub fn cullpethi_parse_timestamp_second(text: &[u8], seconds: &mut i64) -> u8
     ensures { Told (column TimestampSecond text.now) result seconds.old seconds.new }
 {
     put64(TimestampSecondType::parse(text), seconds)
 }
 
 // A time column in nanoseconds.
-#[unsafe(no_mangle)]
-pub extern "C" fn cullpethi_parse_time64_nanosecond(text: &[u8], nanos: &mut i64) -> u8
+pub fn cullpethi_parse_time64_nanosecond(text: &[u8], nanos: &mut i64) -> u8
     ensures { Told (column Time64Nanosecond text.now) result nanos.old nanos.new }
 {
     put64(Time64NanosecondType::parse(text), nanos)
 }
 
 // A time column in microseconds.
-#[unsafe(no_mangle)]
-pub extern "C" fn cullpethi_parse_time64_microsecond(text: &[u8], micros: &mut i64) -> u8
+pub fn cullpethi_parse_time64_microsecond(text: &[u8], micros: &mut i64) -> u8
     ensures { Told (column Time64Microsecond text.now) result micros.old micros.new }
 {
     put64(Time64MicrosecondType::parse(text), micros)
 }
 
 // A date column in milliseconds since 1970-01-01.
-#[unsafe(no_mangle)]
-pub extern "C" fn cullpethi_parse_date64(text: &[u8], millis: &mut i64) -> u8
+pub fn cullpethi_parse_date64(text: &[u8], millis: &mut i64) -> u8
     ensures { Told (column Date64 text.now) result millis.old millis.new }
 {
     put64(Date64Type::parse(text), millis)
 }
 
 // A time column in milliseconds, of 32 bits.
-#[unsafe(no_mangle)]
-pub extern "C" fn cullpethi_parse_time32_millisecond(text: &[u8], millis: &mut i32) -> u8
+pub fn cullpethi_parse_time32_millisecond(text: &[u8], millis: &mut i32) -> u8
     ensures { Told (column Time32Millisecond text.now) result millis.old millis.new }
 {
     put32(Time32MillisecondType::parse(text), millis)
 }
 
 // A time column in seconds, of 32 bits.
-#[unsafe(no_mangle)]
-pub extern "C" fn cullpethi_parse_time32_second(text: &[u8], seconds: &mut i32) -> u8
+pub fn cullpethi_parse_time32_second(text: &[u8], seconds: &mut i32) -> u8
     ensures { Told (column Time32Second text.now) result seconds.old seconds.new }
 {
     put32(Time32SecondType::parse(text), seconds)
 }
 
 // A date column in days since 1970-01-01.
-#[unsafe(no_mangle)]
-pub extern "C" fn cullpethi_parse_date32(text: &[u8], days: &mut i32) -> u8
+pub fn cullpethi_parse_date32(text: &[u8], days: &mut i32) -> u8
     ensures { Told (column Date32 text.now) result days.old days.new }
 {
     put32(Date32Type::parse(text), days)
 }
 
 // An interval in months; years are the default unit.
-#[unsafe(no_mangle)]
-pub extern "C" fn cullpethi_parse_interval_year_month(
+pub fn cullpethi_parse_interval_year_month(
     text: &[u8],
     months: &mut i32,
     place: &mut usize,
@@ -159,8 +145,7 @@ pub extern "C" fn cullpethi_parse_interval_year_month(
 }
 
 // An interval in days and milliseconds; days are the default unit.
-#[unsafe(no_mangle)]
-pub extern "C" fn cullpethi_parse_interval_day_time(
+pub fn cullpethi_parse_interval_day_time(
     text: &[u8],
     days: &mut i32,
     millis: &mut i32,
@@ -172,8 +157,7 @@ pub extern "C" fn cullpethi_parse_interval_day_time(
 }
 
 // An interval in months, days and nanoseconds; months are the default unit.
-#[unsafe(no_mangle)]
-pub extern "C" fn cullpethi_parse_interval_month_day_nano(
+pub fn cullpethi_parse_interval_month_day_nano(
     text: &[u8],
     months: &mut i32,
     days: &mut i32,
@@ -187,8 +171,7 @@ pub extern "C" fn cullpethi_parse_interval_month_day_nano(
 }
 
 // The same with a default unit by its number, 0 century to 11 nanosecond; 255 where there is no such unit.
-#[unsafe(no_mangle)]
-pub extern "C" fn cullpethi_parse_interval_month_day_nano_config(
+pub fn cullpethi_parse_interval_month_day_nano_config(
     text: &[u8],
     default_unit: u8,
     months: &mut i32,
@@ -212,8 +195,7 @@ pub extern "C" fn cullpethi_parse_interval_month_day_nano_config(
 
 // A whole column by its number, 0 TimestampNanosecond to 9 Date64: each text by the column's reader, its value into its cell, or the first
 // refused one's number and index; 13 where ends fall or pass the bytes or cells are too few, 255 where there is no such column.
-#[unsafe(no_mangle)]
-pub extern "C" fn cullpethi_parse_column(
+pub fn cullpethi_parse_column(
     column: u8,
     texts: &[u8],
     ends: &[u32],

@@ -1,0 +1,193 @@
+// The C interface: the calls of the library `cullpethi`, exported under their names to a static library, each with its contract.
+#![tactic(auto)]
+
+ghost use Rattle.column.specs.Columns.{column};
+ghost use Rattle.column.specs.declared.Column.TheVariants.{TimestampNanosecond, TimestampMicrosecond, TimestampMillisecond, TimestampSecond, Time64Nanosecond, Time64Microsecond, Time32Millisecond, Time32Second, Date32, Date64};
+ghost use Rattle.amount.specs.Grammar.{precision};
+ghost use Rattle.rule.specs.Answer.{day_time, plain_month_day_nano, year_month};
+ghost use Rattle.rule.specs.Meaning.{day_time_of};
+ghost use Rattle.rule.specs.Contribution.{counts};
+ghost use Rattle.time.specs.Answer.{time_nanos};
+ghost use Rattle.stamp_text.specs.Answer.{stamp_nanos};
+ghost use Rattle.site.specs.Site.{site_nanos};
+ghost use Rattle.unit.specs.Units.{unit_numbered};
+ghost use Rattle.unit.specs.declared.IntervalUnit.TheVariants.{Year, Month, Day};
+ghost use Rattle.place.specs.Where.{place as place_of};
+ghost use Rattle.cells.specs.Cells.{Told, ToldPlace, ToldColumn};
+ghost use Rattle.parse_column.specs.Numbers.{column_numbered};
+ghost use Rattle.cullpethi.specs.ColumnNumber.{in_column};
+ghost use Rattle.cullpethi.specs.DefaultUnit.{in_unit, place_in_unit};
+ghost use Rattle.std.specs.Prelude.{length};
+
+// A stamp, in nanoseconds since 1970-01-01.
+#[unsafe(no_mangle)]
+pub extern "C" fn cullpethi_string_to_timestamp_nanos(text: &[u8], nanos: &mut i64) -> u8
+    ensures { Told (stamp_nanos text.now) result nanos.old nanos.new }
+{
+    cullpethi::cullpethi_string_to_timestamp_nanos(text, nanos)
+}
+
+// A time of day, in nanoseconds since midnight.
+#[unsafe(no_mangle)]
+pub extern "C" fn cullpethi_string_to_time_nanoseconds(text: &[u8], nanos: &mut i64) -> u8
+    ensures { Told (time_nanos text.now) result nanos.old nanos.new }
+{
+    cullpethi::cullpethi_string_to_time_nanoseconds(text, nanos)
+}
+
+// A site stamp, in nanoseconds since 1970-01-01.
+#[unsafe(no_mangle)]
+pub extern "C" fn cullpethi_site_stamp(text: &[u8], nanos: &mut i64) -> u8
+    ensures { Told (site_nanos text.now) result nanos.old nanos.new }
+{
+    cullpethi::cullpethi_site_stamp(text, nanos)
+}
+
+// A timestamp column in nanoseconds.
+#[unsafe(no_mangle)]
+pub extern "C" fn cullpethi_parse_timestamp_nanosecond(text: &[u8], nanos: &mut i64) -> u8
+    ensures { Told (column TimestampNanosecond text.now) result nanos.old nanos.new }
+{
+    cullpethi::cullpethi_parse_timestamp_nanosecond(text, nanos)
+}
+
+// A timestamp column in microseconds.
+#[unsafe(no_mangle)]
+pub extern "C" fn cullpethi_parse_timestamp_microsecond(text: &[u8], micros: &mut i64) -> u8
+    ensures { Told (column TimestampMicrosecond text.now) result micros.old micros.new }
+{
+    cullpethi::cullpethi_parse_timestamp_microsecond(text, micros)
+}
+
+// A timestamp column in milliseconds.
+#[unsafe(no_mangle)]
+pub extern "C" fn cullpethi_parse_timestamp_millisecond(text: &[u8], millis: &mut i64) -> u8
+    ensures { Told (column TimestampMillisecond text.now) result millis.old millis.new }
+{
+    cullpethi::cullpethi_parse_timestamp_millisecond(text, millis)
+}
+
+// A timestamp column in seconds.
+#[unsafe(no_mangle)]
+pub extern "C" fn cullpethi_parse_timestamp_second(text: &[u8], seconds: &mut i64) -> u8
+    ensures { Told (column TimestampSecond text.now) result seconds.old seconds.new }
+{
+    cullpethi::cullpethi_parse_timestamp_second(text, seconds)
+}
+
+// A time column in nanoseconds.
+#[unsafe(no_mangle)]
+pub extern "C" fn cullpethi_parse_time64_nanosecond(text: &[u8], nanos: &mut i64) -> u8
+    ensures { Told (column Time64Nanosecond text.now) result nanos.old nanos.new }
+{
+    cullpethi::cullpethi_parse_time64_nanosecond(text, nanos)
+}
+
+// A time column in microseconds.
+#[unsafe(no_mangle)]
+pub extern "C" fn cullpethi_parse_time64_microsecond(text: &[u8], micros: &mut i64) -> u8
+    ensures { Told (column Time64Microsecond text.now) result micros.old micros.new }
+{
+    cullpethi::cullpethi_parse_time64_microsecond(text, micros)
+}
+
+// A date column in milliseconds since 1970-01-01.
+#[unsafe(no_mangle)]
+pub extern "C" fn cullpethi_parse_date64(text: &[u8], millis: &mut i64) -> u8
+    ensures { Told (column Date64 text.now) result millis.old millis.new }
+{
+    cullpethi::cullpethi_parse_date64(text, millis)
+}
+
+// A time column in milliseconds, of 32 bits.
+#[unsafe(no_mangle)]
+pub extern "C" fn cullpethi_parse_time32_millisecond(text: &[u8], millis: &mut i32) -> u8
+    ensures { Told (column Time32Millisecond text.now) result millis.old millis.new }
+{
+    cullpethi::cullpethi_parse_time32_millisecond(text, millis)
+}
+
+// A time column in seconds, of 32 bits.
+#[unsafe(no_mangle)]
+pub extern "C" fn cullpethi_parse_time32_second(text: &[u8], seconds: &mut i32) -> u8
+    ensures { Told (column Time32Second text.now) result seconds.old seconds.new }
+{
+    cullpethi::cullpethi_parse_time32_second(text, seconds)
+}
+
+// A date column in days since 1970-01-01.
+#[unsafe(no_mangle)]
+pub extern "C" fn cullpethi_parse_date32(text: &[u8], days: &mut i32) -> u8
+    ensures { Told (column Date32 text.now) result days.old days.new }
+{
+    cullpethi::cullpethi_parse_date32(text, days)
+}
+
+// An interval in months; years are the default unit.
+#[unsafe(no_mangle)]
+pub extern "C" fn cullpethi_parse_interval_year_month(
+    text: &[u8],
+    months: &mut i32,
+    place: &mut usize,
+) -> u8
+    ensures { Told (year_month precision text.now) result months.old months.new × ToldPlace (place_of precision Year text.now) place.old place.new }
+{
+    cullpethi::cullpethi_parse_interval_year_month(text, months, place)
+}
+
+// An interval in days and milliseconds; days are the default unit.
+#[unsafe(no_mangle)]
+pub extern "C" fn cullpethi_parse_interval_day_time(
+    text: &[u8],
+    days: &mut i32,
+    millis: &mut i32,
+    place: &mut usize,
+) -> u8
+    ensures { Told (day_time precision text.now) result (day_time_of days.old millis.old) (day_time_of days.new millis.new) × ToldPlace (place_of precision Day text.now) place.old place.new }
+{
+    cullpethi::cullpethi_parse_interval_day_time(text, days, millis, place)
+}
+
+// An interval in months, days and nanoseconds; months are the default unit.
+#[unsafe(no_mangle)]
+pub extern "C" fn cullpethi_parse_interval_month_day_nano(
+    text: &[u8],
+    months: &mut i32,
+    days: &mut i32,
+    nanos: &mut i64,
+    place: &mut usize,
+) -> u8
+    ensures { Told (plain_month_day_nano precision text.now) result (counts months.old days.old nanos.old) (counts months.new days.new nanos.new) × ToldPlace (place_of precision Month text.now) place.old place.new }
+{
+    cullpethi::cullpethi_parse_interval_month_day_nano(text, months, days, nanos, place)
+}
+
+// The same with a default unit by its number, 0 century to 11 nanosecond; 255 where there is no such unit.
+#[unsafe(no_mangle)]
+pub extern "C" fn cullpethi_parse_interval_month_day_nano_config(
+    text: &[u8],
+    default_unit: u8,
+    months: &mut i32,
+    days: &mut i32,
+    nanos: &mut i64,
+    place: &mut usize,
+) -> u8
+    ensures { Told (in_unit (unit_numbered default_unit) text.now) result (counts months.old days.old nanos.old) (counts months.new days.new nanos.new) × ToldPlace (place_in_unit (unit_numbered default_unit) text.now) place.old place.new }
+{
+    cullpethi::cullpethi_parse_interval_month_day_nano_config(text, default_unit, months, days, nanos, place)
+}
+
+// A whole column by its number, 0 TimestampNanosecond to 9 Date64: each text by the column's reader, its value into its cell, or the first
+// refused one's number and index; 13 where ends fall or pass the bytes or cells are too few, 255 where there is no such column.
+#[unsafe(no_mangle)]
+pub extern "C" fn cullpethi_parse_column(
+    column: u8,
+    texts: &[u8],
+    ends: &[u32],
+    cells: &mut [i64],
+    index: &mut usize,
+) -> u8
+    ensures { ToldColumn (in_column (column_numbered «column») texts.now ends.now (length cells.old)) result index.old index.new cells.old cells.new }
+{
+    cullpethi::cullpethi_parse_column(column, texts, ends, cells, index)
+}
