@@ -1,5 +1,4 @@
 -- `text::byte_at` meets its contract. Assumes nothing.
-use Rattle.std.proofs.Common.{rules}
 use lib.ListN.{get_or-eq_default}
 use Rattle.text.proofs.byte_at.Goals as goal
 

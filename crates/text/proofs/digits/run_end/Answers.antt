@@ -1,5 +1,4 @@
-use Rattle.std.proofs.Common.{◌≡◌, ◌+◌, ◌-◌, ◌≤◌, length, drop, arith, rules}
-use Rattle.text.specs.Digits.{run}
+use Rattle.std.proofs.Common.{arith, rules}
 use Rattle.text.proofs.DigitLaws.{run_on, run_off, run_end}
 use Rattle.text.proofs.digits.run_end.Goals as goal
 

@@ -1,7 +1,6 @@
 -- `text::digits::run_end` meets its contract. The loop's invariant: what is left of the run ends where the whole does. Assumes nothing.
-use Rattle.std.proofs.Common.{◌≡◌, ◌+◌, ◌-◌, ◌≤◌, length, drop, arith, rules}
+use Rattle.std.proofs.Common.{◌≡◌, ◌+◌, ◌-◌, ◌≤◌, length, drop}
 use Rattle.text.specs.Digits.{run}
-use Rattle.text.proofs.DigitLaws.{run_on, run_off, run_end}
 use Rattle.text.proofs.digits.run_end.Given as goal
 
 abbrev pub invariant-loop-i : goal.invariant-loop-i

@@ -1,5 +1,5 @@
 -- `text::digits::two` meets its contract, by the laws of two digits at a place. Assumes nothing.
-use Rattle.std.proofs.Common.{arith, rules}
+use Rattle.std.proofs.Common.{arith}
 use Rattle.text.proofs.TwoDigits.{first_no, second_no, both_yes, past_end}
 use Rattle.text.proofs.digits.two.Goals as goal
 

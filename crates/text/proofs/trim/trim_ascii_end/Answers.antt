@@ -1,7 +1,5 @@
-use Rattle.std.proofs.Common.{◌≡◌, ◌≤◌, length, take, sym, ◌∙◌, arith, length-take-le, rules}
-use borrow.Author.Tests.{not-true, not-false}
+use Rattle.std.proofs.Common.{sym, ◌∙◌, arith, length-take-le, rules}
 use lib.Seq.{take-length}
-use Rattle.text.specs.Trim.{trim_end}
 use Rattle.text.proofs.TrimLaws.{end_on, end_off, end_none}
 use Rattle.text.proofs.trim.trim_ascii_end.Goals as goal
 

@@ -1,9 +1,6 @@
 -- `text::trim::trim_ascii_end` meets its contract. The loop's invariant: what is left is trimmed to what the whole is. Assumes nothing.
-use Rattle.std.proofs.Common.{◌≡◌, ◌≤◌, length, take, sym, ◌∙◌, arith, length-take-le, rules}
-use borrow.Author.Tests.{not-true, not-false}
-use lib.Seq.{take-length}
+use Rattle.std.proofs.Common.{◌≡◌, ◌≤◌, length, take}
 use Rattle.text.specs.Trim.{trim_end}
-use Rattle.text.proofs.TrimLaws.{end_on, end_off, end_none}
 use Rattle.text.proofs.trim.trim_ascii_end.Given as goal
 
 abbrev pub invariant-loop-end : goal.invariant-loop-end

@@ -1,6 +1,4 @@
-use Rattle.std.proofs.Common.{◌≡◌, ◌-◌, ◌≤◌, length, drop, sym, ◌∙◌, arith, rules}
-use borrow.Author.Tests.{not-true, not-false}
-use Rattle.text.specs.Trim.{trim_start}
+use Rattle.std.proofs.Common.{sym, ◌∙◌, arith}
 use Rattle.text.proofs.Parts.{rest}
 use Rattle.text.proofs.TrimLaws.{start_on, start_off, start_end}
 use Rattle.text.proofs.trim.trim_ascii_start.Goals as goal

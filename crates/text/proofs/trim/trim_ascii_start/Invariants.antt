@@ -1,9 +1,6 @@
 -- `text::trim::trim_ascii_start` meets its contract. The loop's invariant: what is left is trimmed to what the whole is. Assumes nothing.
-use Rattle.std.proofs.Common.{◌≡◌, ◌-◌, ◌≤◌, length, drop, sym, ◌∙◌, arith, rules}
-use borrow.Author.Tests.{not-true, not-false}
+use Rattle.std.proofs.Common.{◌≡◌, ◌-◌, ◌≤◌, length, drop}
 use Rattle.text.specs.Trim.{trim_start}
-use Rattle.text.proofs.Parts.{rest}
-use Rattle.text.proofs.TrimLaws.{start_on, start_off, start_end}
 use Rattle.text.proofs.trim.trim_ascii_start.Given as goal
 
 abbrev pub invariant-loop-i : goal.invariant-loop-i

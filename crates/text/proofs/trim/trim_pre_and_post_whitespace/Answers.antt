@@ -1,5 +1,5 @@
 -- `text::trim::trim_pre_and_post_whitespace` meets its contract: at an end with a digit there is nothing to trim. Assumes nothing.
-use Rattle.std.proofs.Common.{◌≡◌, ◌-◌, false, leb, length, get_or, ap, ◌∙◌, arith, rules, leb-false}
+use Rattle.std.proofs.Common.{◌≡◌, ◌-◌, false, leb, length, get_or, ap, ◌∙◌, arith, leb-false}
 use Rattle.text.specs.Trim.{blank, trim_end}
 use Rattle.text.proofs.TrimLaws.{digit_kept, start_only, end_only, neither, nothing}
 use Rattle.text.proofs.trim.trim_pre_and_post_whitespace.Goals as goal
