@@ -1,4 +1,4 @@
-//! Makes the static library by `rt staticlib cullpethi`, or takes the one in the folder that CULLPETHI_LIB names, and links it.
+//! Makes the static library by the repository's `./staticlib`, or takes the one in the folder that CULLPETHI_LIB names, and links it.
 use std::env;
 use std::fs::{self, File, OpenOptions};
 use std::io::{BufRead, BufReader, IsTerminal, Write};
@@ -54,29 +54,28 @@ fn built() -> PathBuf {
     folder
 }
 
-/// Runs `rt staticlib cullpethi`, and shows each crate as it is proved, which `rt` says on stderr.
+/// Runs `./staticlib`, and shows each crate as it is proved, which it says on stderr.
 fn proved(repository: &Path) {
     let mut shown = Shown::new();
-    shown.line("`rt staticlib cullpethi` proves the library; the first time takes some minutes");
-    let rt = Command::new("rt")
-        .args(["staticlib", "cullpethi"])
-        .current_dir(repository)
+    shown.line("`./staticlib` proves the library; the first time takes some minutes");
+    let made = Command::new(repository.join("staticlib"))
         .stderr(Stdio::piped())
         .spawn();
-    let mut rt = rt.unwrap_or_else(|e| {
+    let mut made = made.unwrap_or_else(|e| {
         stop(&format!(
-            "`rt`, of the Rattle toolchain, does not start ({e}). Without it, build {LIBRARY} elsewhere and set CULLPETHI_LIB to its folder"
+            "`./staticlib` does not start ({e}). Without `rt`, of the Rattle toolchain, build {LIBRARY} elsewhere and set CULLPETHI_LIB to its folder"
         ))
     });
-    for line in BufReader::new(rt.stderr.take().unwrap()).lines() {
+    for line in BufReader::new(made.stderr.take().unwrap()).lines() {
         let line = line.unwrap_or_default();
-        match line.strip_prefix("rt: ") {
-            Some(said) => shown.line(said),
-            None => eprintln!("{line}"),
+        if line.ends_with(" proved") {
+            shown.line(&line);
+        } else {
+            eprintln!("{line}");
         }
     }
-    if !rt.wait().is_ok_and(|status| status.success()) {
-        stop("`rt staticlib cullpethi` failed, see above");
+    if !made.wait().is_ok_and(|status| status.success()) {
+        stop("`./staticlib` failed, see above");
     }
 }
 
