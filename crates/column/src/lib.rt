@@ -2,7 +2,6 @@
 // Their code stands in `stamp_column`, `time_column` and `date_column`.
 #![tactic(auto)]
 
-
 // Document 01's ten, in the order of their numbers.
 #[derive(Clone, Copy)]
 pub enum Column {

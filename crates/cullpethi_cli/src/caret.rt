@@ -3,16 +3,17 @@ ghost use Rattle.std.specs.Prelude.{◌≤◌, ◌<◌, length};
 ghost use Rattle.io.specs.Counts.{IsPrefixLen};
 
 use crate::output;
+use crate::output::Streams;
 use room::put;
 
 // Writes both lines; false where some of it is lost.
-pub fn below(text: &[u8], place: usize) -> bool {
-    let mut room = io::large_buffer();
+pub fn below(to: Streams, text: &[u8], place: usize) -> bool {
+    let mut room = [0u8; 65536];
     let n = before(text, place, &mut room);
-    output::written(text.len(), text)
-        && output::written(1, b"\n")
-        && output::written(n, &room)
-        && output::written(2, b"^\n")
+    output::written(to, text.len(), text)
+        && output::written(to, 1, b"\n")
+        && output::written(to, n, &room)
+        && output::written(to, 2, b"^\n")
 }
 
 // What stands before the caret, so that it comes under the right character.

@@ -1,25 +1,27 @@
 // What the program says of itself.
 use crate::names::Reader;
+use crate::output::Streams;
 use crate::show::refusal;
 use crate::{FAILED, READ, output};
 use refusal::Refusal;
 use room::put;
 
-pub fn version() -> u8 {
-    told(output::written(16, b"cullpethi 0.1.0\n"))
+pub fn version(to: Streams) -> u8 {
+    told(output::written(to, 16, b"cullpethi 0.1.0\n"))
 }
 
 // The readers' names, where a word names none.
-pub fn names() {
+pub fn names(to: Streams) {
     output::said(
+        to,
         b"the readers are string_to_timestamp_nanos, site_stamp, timestamp_nanosecond, timestamp_microsecond, \
         timestamp_millisecond, timestamp_second, string_to_time_nanoseconds, time64_nanosecond, time64_microsecond, \
         time32_millisecond, time32_second, date32, date64, interval, interval_year_month, interval_day_time",
     );
 }
 
-pub fn all() -> u8 {
-    let mut out = io::large_buffer();
+pub fn all(to: Streams) -> u8 {
+    let mut out = [0u8; 65536];
     let n = usage(0, &mut out);
     let n = stamps(n, &mut out);
     let n = times(n, &mut out);
@@ -27,19 +29,19 @@ pub fn all() -> u8 {
     let n = intervals(n, &mut out);
     let n = refusals(n, &mut out);
     let n = statuses(n, &mut out);
-    told(output::written(n, &out))
+    told(output::written(to, n, &out))
 }
 
 // What one reader reads.
-pub fn one(reader: Reader) -> u8 {
-    let mut out = io::large_buffer();
+pub fn one(to: Streams, reader: Reader) -> u8 {
+    let mut out = [0u8; 65536];
     let n = group(reader, 0, &mut out);
     let n = put(
         b"\nThe other readers, the options and the refusals: cullpethi --help\n",
         n,
         &mut out,
     );
-    told(output::written(n, &out))
+    told(output::written(to, n, &out))
 }
 
 fn told(written: bool) -> u8 {

@@ -1,15 +1,17 @@
 // Standard input, line by line, however long it is. Answers are held back until there are many, or no input is at hand.
+use crate::output::Streams;
 use crate::show::Shown;
 use crate::{Asked, FAILED, READ, caret, output, show};
 use lines::Taken;
 use lines::input::take_line;
 use place::MaybePlace;
+use std::io::Read;
 
 // From so many bytes on answers are written: the room has 65,536, and no answer has 512.
 const MANY: usize = 65024;
 
 // Where the reading stands.
-#[derive(Drop)]
+#[derive(Clone, Copy)]
 struct Held {
     // How many bytes of a line are held; one more than there is room for stands for a line that is too long.
     n: usize,
@@ -23,9 +25,9 @@ struct Held {
     more: bool,
 }
 
-pub fn each(asked: Asked) -> u8 {
-    let mut line = io::large_buffer();
-    let mut out = io::large_buffer();
+pub fn each(to: Streams, asked: Asked) -> u8 {
+    let mut line = [0u8; 65536];
+    let mut out = [0u8; 65536];
     let mut held = Held {
         n: 0,
         answers: 0,
@@ -34,66 +36,80 @@ pub fn each(asked: Asked) -> u8 {
         more: true,
     };
     // A proved loop has to end, and nothing says that the input does: no run uses up so many turns.
-    let mut turns = u64::MAX;
-    while turns > 0 && held.more {
-        held = read_some(asked, held, &mut line, &mut out);
-        turns -= 1;
+    for _ in 0..u64::MAX {
+        held = read_some(to, asked, held, &mut line, &mut out);
+        if !held.more {
+            break;
+        }
     }
-    last(asked, held, &line, &mut out)
+    last(to, asked, held, &line, &mut out)
 }
 
 // A last line that no line feed ends.
-fn last(asked: Asked, held: Held, line: &[u8], out: &mut [u8]) -> u8 {
+fn last(to: Streams, asked: Asked, held: Held, line: &[u8], out: &mut [u8]) -> u8 {
     if held.status == FAILED {
         return FAILED;
     }
     if held.n == 0 {
         return held.status;
     }
-    let end = written(answered(asked, held, held.n, line, out), out);
+    let end = written(to, answered(to, asked, held, held.n, line, out), out);
     end.status
 }
 
-fn read_some(asked: Asked, held: Held, line: &mut [u8], out: &mut [u8]) -> Held {
-    let mut input = io::large_buffer();
-    let got = libc::read(0, &mut input);
-    if got < 0 {
-        os::fail(b"cullpethi: standard input");
-        return held.stopped(FAILED);
+fn read_some(to: Streams, asked: Asked, held: Held, line: &mut [u8], out: &mut [u8]) -> Held {
+    let mut input = [0u8; 65536];
+    let mut stdin = to.input;
+    match stdin.read(&mut input) {
+        Ok(0) => held.stopped(held.status),
+        Ok(n) => written(to, all(to, asked, held, &input[..n], line, out), out),
+        Err(why) => {
+            output::failed(to, b"standard input", why);
+            held.stopped(FAILED)
+        }
     }
-    if got == 0 {
-        return held.stopped(held.status);
-    }
-    let n = io::count(got, &input);
-    written(all(asked, held, &input[..n], line, out), out)
 }
 
 // Answers each line that ends in these bytes, and holds the rest.
-fn all(asked: Asked, start: Held, input: &[u8], line: &mut [u8], out: &mut [u8]) -> Held {
+fn all(
+    to: Streams,
+    asked: Asked,
+    start: Held,
+    input: &[u8],
+    line: &mut [u8],
+    out: &mut [u8],
+) -> Held {
     let mut held = start;
     let mut i = 0;
     while i < input.len() && held.more {
         let taken = take_line(&input[i..], line, held.n);
         i += taken.next;
-        held = one(asked, held, taken, line, out);
+        held = one(to, asked, held, taken, line, out);
     }
     held
 }
 
-fn one(asked: Asked, mut held: Held, taken: Taken, line: &[u8], out: &mut [u8]) -> Held {
+fn one(
+    to: Streams,
+    asked: Asked,
+    mut held: Held,
+    taken: Taken,
+    line: &[u8],
+    out: &mut [u8],
+) -> Held {
     if !taken.ended {
         held.n = taken.held;
         return held;
     }
-    let next = answered(asked, held, taken.held, line, out);
+    let next = answered(to, asked, held, taken.held, line, out);
     if next.answers < MANY {
         return next;
     }
-    written(next, out)
+    written(to, next, out)
 }
 
 // Answers the line of n bytes.
-fn answered(asked: Asked, held: Held, n: usize, line: &[u8], out: &mut [u8]) -> Held {
+fn answered(to: Streams, asked: Asked, held: Held, n: usize, line: &[u8], out: &mut [u8]) -> Held {
     let number = next_number(held.lines);
     let shown = shown(asked, number, n, line, held.answers, out);
     let next = Held {
@@ -103,11 +119,10 @@ fn answered(asked: Asked, held: Held, n: usize, line: &[u8], out: &mut [u8]) -> 
         status: worse(held.status, shown.status),
         more: true,
     };
-    let refused_at = shown.place;
-    match refused_at {
+    match shown.place {
         MaybePlace::Some(place) => {
             if asked.caret {
-                return pointed(next, n, line, place, out);
+                return pointed(to, next, n, line, place, out);
             }
             next
         }
@@ -116,15 +131,15 @@ fn answered(asked: Asked, held: Held, n: usize, line: &[u8], out: &mut [u8]) -> 
 }
 
 // Writes the answers that are held, and below the last of them its text with a caret.
-fn pointed(held: Held, n: usize, line: &[u8], place: usize, out: &[u8]) -> Held {
-    let after = written(held, out);
+fn pointed(to: Streams, held: Held, n: usize, line: &[u8], place: usize, out: &[u8]) -> Held {
+    let after = written(to, held, out);
     if !after.more {
         return after;
     }
     if line.len() < n {
         return after;
     }
-    if caret::below(&line[..n], place) {
+    if caret::below(to, &line[..n], place) {
         return after;
     }
     after.stopped(FAILED)
@@ -138,11 +153,11 @@ fn shown(asked: Asked, number: u64, n: usize, line: &[u8], at: usize, out: &mut 
 }
 
 // Writes the answers that are held; once some were lost, no more.
-fn written(mut held: Held, out: &[u8]) -> Held {
+fn written(to: Streams, mut held: Held, out: &[u8]) -> Held {
     if !held.more {
         return held;
     }
-    if output::written(held.answers, out) {
+    if output::written(to, held.answers, out) {
         held.answers = 0;
         return held;
     }

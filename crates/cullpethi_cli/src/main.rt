@@ -1,9 +1,12 @@
 // The command line: reads a text, or each line of standard input, by the reader that is named, and writes the counts or the refusal.
-// A program has no exit status of its own, so behind `--status` it is written to descriptor 3, for the script that starts it.
 #![tactic(auto)]
 
 use names::{Named, Reader};
+use output::Streams;
 use place::MaybePlace;
+use std::env::Env;
+use std::io::IsTerminal;
+use std::process::ExitCode;
 use words::Words;
 
 mod answer;
@@ -25,7 +28,7 @@ pub const REFUSED: u8 = 1;
 pub const FAILED: u8 = 2;
 
 // What is asked of each text.
-#[derive(Drop)]
+#[derive(Clone, Copy)]
 pub struct Asked {
     pub reader: Reader,
     // Whether the line's number goes in front.
@@ -34,72 +37,76 @@ pub struct Asked {
     pub caret: bool,
 }
 
-fn main() {
-    if words::is_word(1, b"--status") {
-        let status = command(2);
-        io::print_decimal(3, status as u64);
-    } else {
-        command(1);
-    }
+fn main(rt: HostRuntime) -> ExitCode {
+    let to = Streams {
+        input: rt.stdin(),
+        output: rt.stdout(),
+        errors: rt.stderr(),
+        alloc: rt.alloc(),
+    };
+    ExitCode::from(command(&rt, to))
 }
 
-// The command whose words begin at an argument.
-fn command(at: usize) -> u8 {
-    let words = words::all(at);
+// The status of the command.
+fn command(env: &impl Env, to: Streams) -> u8 {
+    let words = words::all(env, to);
     if !words.good {
         return FAILED;
     }
     if words.version {
-        return help::version();
+        return help::version(to);
     }
-    let named = words.reader;
-    match named {
-        Named::Is(reader) => with_reader(words, reader),
-        Named::None => with_none(words.help),
+    match words.reader {
+        Named::Is(reader) => with_reader(env, to, words, reader),
+        Named::None => with_none(to, words.help),
     }
 }
 
-fn with_none(help: bool) -> u8 {
+fn with_none(to: Streams, help: bool) -> u8 {
     if help {
-        return help::all();
+        return help::all(to);
     }
-    output::bad_usage(b"no reader is named")
+    output::bad_usage(to, b"no reader is named")
 }
 
-fn with_reader(words: Words, reader: Reader) -> u8 {
+fn with_reader(env: &impl Env, to: Streams, words: Words, reader: Reader) -> u8 {
     if words.help {
-        return help::one(reader);
+        return help::one(to, reader);
     }
     let asked = Asked {
         reader: words.with_default(reader),
         number: words.number,
-        caret: libc::isatty(1) == 1,
+        caret: to.output.is_terminal(),
     };
     if words.text == 0 {
-        return input::each(asked);
+        return input::each(to, asked);
     }
-    one_text(words.text, asked)
+    one_text(env, to, words.text, asked)
 }
 
 // The argument is there, so all that can be wrong is its length.
-fn one_text(at: usize, asked: Asked) -> u8 {
-    let mut space = io::large_buffer();
-    let n = os::arg(at, &mut space);
-    let whole = os::errno() == 0;
-    let mut out = io::buffer();
-    let shown = show::line(asked, 1, &space[..n], whole, 0, &mut out);
-    if !output::written(shown.n, &out) {
+fn one_text(env: &impl Env, to: Streams, at: usize, asked: Asked) -> u8 {
+    let mut space = [0u8; 65536];
+    match env.arg(at, &mut space) {
+        Ok(n) => answered(to, &space[..n], true, asked),
+        Err(_) => answered(to, b"", false, asked),
+    }
+}
+
+fn answered(to: Streams, text: &[u8], whole: bool, asked: Asked) -> u8 {
+    let mut out = [0u8; 4096];
+    let shown = show::line(asked, 1, text, whole, 0, &mut out);
+    if !output::written(to, shown.n, &out) {
         return FAILED;
     }
-    let refused_at = shown.place;
-    match refused_at {
-        MaybePlace::Some(place) => shown_below(&space[..n], place, shown.status),
+    match shown.place {
+        MaybePlace::Some(place) => shown_below(to, text, place, shown.status),
         MaybePlace::None => shown.status,
     }
 }
 
-fn shown_below(text: &[u8], place: usize, status: u8) -> u8 {
-    if caret::below(text, place) {
+fn shown_below(to: Streams, text: &[u8], place: usize, status: u8) -> u8 {
+    if caret::below(to, text, place) {
         return status;
     }
     FAILED

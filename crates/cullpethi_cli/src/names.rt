@@ -1,7 +1,7 @@
 // What the words of the command line name.
 use unit::IntervalUnit;
 
-#[derive(Drop)]
+#[derive(Clone, Copy)]
 pub enum Reader {
     StampNanos,
     SiteStamp,
@@ -22,7 +22,7 @@ pub enum Reader {
     IntervalDayTime,
 }
 
-#[derive(Drop)]
+#[derive(Clone, Copy)]
 pub enum Named {
     Is(Reader),
     None,
@@ -50,61 +50,35 @@ fn time_or_date(name: &[u8]) -> Named {
 }
 
 fn stamp(name: &[u8]) -> Named {
-    if check::same(name, b"string_to_timestamp_nanos") {
-        return Named::Is(Reader::StampNanos);
+    match name {
+        b"string_to_timestamp_nanos" => Named::Is(Reader::StampNanos),
+        b"site_stamp" => Named::Is(Reader::SiteStamp),
+        b"timestamp_nanosecond" => Named::Is(Reader::TimestampNanosecond),
+        b"timestamp_microsecond" => Named::Is(Reader::TimestampMicrosecond),
+        b"timestamp_millisecond" => Named::Is(Reader::TimestampMillisecond),
+        b"timestamp_second" => Named::Is(Reader::TimestampSecond),
+        _ => Named::None,
     }
-    if check::same(name, b"site_stamp") {
-        return Named::Is(Reader::SiteStamp);
-    }
-    if check::same(name, b"timestamp_nanosecond") {
-        return Named::Is(Reader::TimestampNanosecond);
-    }
-    if check::same(name, b"timestamp_microsecond") {
-        return Named::Is(Reader::TimestampMicrosecond);
-    }
-    if check::same(name, b"timestamp_millisecond") {
-        return Named::Is(Reader::TimestampMillisecond);
-    }
-    if check::same(name, b"timestamp_second") {
-        return Named::Is(Reader::TimestampSecond);
-    }
-    Named::None
 }
 
 fn time(name: &[u8]) -> Named {
-    if check::same(name, b"string_to_time_nanoseconds") {
-        return Named::Is(Reader::TimeNanos);
+    match name {
+        b"string_to_time_nanoseconds" => Named::Is(Reader::TimeNanos),
+        b"time64_nanosecond" => Named::Is(Reader::Time64Nanosecond),
+        b"time64_microsecond" => Named::Is(Reader::Time64Microsecond),
+        b"time32_millisecond" => Named::Is(Reader::Time32Millisecond),
+        b"time32_second" => Named::Is(Reader::Time32Second),
+        _ => Named::None,
     }
-    if check::same(name, b"time64_nanosecond") {
-        return Named::Is(Reader::Time64Nanosecond);
-    }
-    if check::same(name, b"time64_microsecond") {
-        return Named::Is(Reader::Time64Microsecond);
-    }
-    if check::same(name, b"time32_millisecond") {
-        return Named::Is(Reader::Time32Millisecond);
-    }
-    if check::same(name, b"time32_second") {
-        return Named::Is(Reader::Time32Second);
-    }
-    Named::None
 }
 
 fn date_or_interval(name: &[u8]) -> Named {
-    if check::same(name, b"date32") {
-        return Named::Is(Reader::Date32);
+    match name {
+        b"date32" => Named::Is(Reader::Date32),
+        b"date64" => Named::Is(Reader::Date64),
+        b"interval" => Named::Is(Reader::Interval),
+        b"interval_year_month" => Named::Is(Reader::IntervalYearMonth),
+        b"interval_day_time" => Named::Is(Reader::IntervalDayTime),
+        _ => Named::None,
     }
-    if check::same(name, b"date64") {
-        return Named::Is(Reader::Date64);
-    }
-    if check::same(name, b"interval") {
-        return Named::Is(Reader::Interval);
-    }
-    if check::same(name, b"interval_year_month") {
-        return Named::Is(Reader::IntervalYearMonth);
-    }
-    if check::same(name, b"interval_day_time") {
-        return Named::Is(Reader::IntervalDayTime);
-    }
-    Named::None
 }

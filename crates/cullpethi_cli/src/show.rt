@@ -7,7 +7,7 @@ use room::{put, put_number, put_signed, put_signed32};
 use total::IntervalRead;
 
 // How many bytes there are, the status, and where the text was refused, if that is told.
-#[derive(Drop)]
+#[derive(Clone, Copy)]
 pub struct Shown {
     pub n: usize,
     pub status: u8,

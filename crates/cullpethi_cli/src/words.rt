@@ -1,11 +1,13 @@
 // The words of the command line.
 use crate::names::{Named, Reader};
+use crate::output::Streams;
 use crate::{help, names, output};
 use lines::input::find;
+use std::env::{Env, FillError};
 use unit::{IntervalUnit, UnitRead};
 
 // What the words up to some place say.
-#[derive(Drop)]
+#[derive(Clone, Copy)]
 pub struct Words {
     pub reader: Named,
     // The unit of `--default`.
@@ -25,16 +27,8 @@ pub struct Words {
     pub good: bool,
 }
 
-// Whether an argument is this word.
-pub fn is_word(at: usize, word: &[u8]) -> bool {
-    let mut space = io::buffer();
-    let n = os::arg(at, &mut space);
-    check::same(&space[..n], word)
-}
-
-// What the words from an argument on say.
-pub fn all(first: usize) -> Words {
-    let count = os::arg_count();
+// What the words behind the program's name say.
+pub fn all(env: &impl Env, to: Streams) -> Words {
     let mut words = Words {
         reader: Named::None,
         unit: UnitRead::None,
@@ -47,51 +41,56 @@ pub fn all(first: usize) -> Words {
         ended: false,
         good: true,
     };
-    let mut at = first;
-    while at < count && words.good {
-        words = next(words, at);
-        at += 1;
+    let mut space = [0u8; 4096];
+    for at in 1..usize::MAX {
+        if !words.good {
+            break;
+        }
+        match env.arg(at, &mut space) {
+            Ok(n) => words = next(to, words, &space[..n], at),
+            // A longer word is a text, or else bad: it is none of the words below.
+            Err(FillError::TooLong) => words = next(to, words, b"", at),
+            Err(FillError::NotPresent) => break,
+        }
     }
-    words.finished()
+    words.finished(to)
 }
 
-fn next(words: Words, at: usize) -> Words {
-    let mut space = io::buffer();
-    let n = os::arg(at, &mut space);
+fn next(to: Streams, words: Words, word: &[u8], at: usize) -> Words {
     if words.wants_unit {
-        return words.with_unit(&space[..n]);
+        return words.with_unit(to, word);
     }
     if words.ended {
-        return words.with_operand(&space[..n], at);
+        return words.with_operand(to, word, at);
     }
-    words.with_option(&space[..n], at)
+    words.with_option(to, word, at)
 }
 
 impl Words {
     // Looks at what only the end can tell.
-    fn finished(self) -> Words {
+    fn finished(self, to: Streams) -> Words {
         if !self.good {
             return self;
         }
         if self.wants_unit {
-            output::bad_usage(b"no unit behind --default");
+            output::bad_usage(to, b"no unit behind --default");
             return self.stopped();
         }
         let unit = self.unit;
         match unit {
-            UnitRead::Unit(_) => self.takes_default(),
+            UnitRead::Unit(_) => self.takes_default(to),
             UnitRead::None => self,
         }
     }
 
-    fn takes_default(self) -> Words {
+    fn takes_default(self, to: Streams) -> Words {
         let reader = self.reader;
         match reader {
             Named::Is(r) => {
                 if names::takes_default(r) {
                     return self;
                 }
-                output::bad_usage(b"--default is for interval alone");
+                output::bad_usage(to, b"--default is for interval alone");
                 self.stopped()
             }
             Named::None => self,
@@ -108,51 +107,53 @@ impl Words {
     }
 
     // An option, or else a reader or a text.
-    fn with_option(mut self, word: &[u8], at: usize) -> Words {
-        if check::same(word, b"--") {
-            self.ended = true;
-            return self;
+    fn with_option(mut self, to: Streams, word: &[u8], at: usize) -> Words {
+        match word {
+            b"--" => {
+                self.ended = true;
+                self
+            }
+            b"-h" | b"--help" => {
+                self.help = true;
+                self
+            }
+            b"-V" | b"--version" => {
+                self.version = true;
+                self
+            }
+            b"--number" => {
+                self.number = true;
+                self
+            }
+            b"--default" => {
+                self.wants_unit = true;
+                self
+            }
+            b"-" => self.with_input(to),
+            _ => self.with_unit_behind(to, word, at),
         }
-        if check::same(word, b"-h") | check::same(word, b"--help") {
-            self.help = true;
-            return self;
-        }
-        if check::same(word, b"-V") | check::same(word, b"--version") {
-            self.version = true;
-            return self;
-        }
-        if check::same(word, b"--number") {
-            self.number = true;
-            return self;
-        }
-        if check::same(word, b"--default") {
-            self.wants_unit = true;
-            return self;
-        }
-        if check::same(word, b"-") {
-            return self.with_input();
-        }
-        self.with_unit_behind(word, at)
     }
 
     // `--default=` with its unit in the same word.
-    fn with_unit_behind(self, word: &[u8], at: usize) -> Words {
+    fn with_unit_behind(self, to: Streams, word: &[u8], at: usize) -> Words {
         let end = find(word, b'=');
         if word.len() <= end {
-            return self.with_operand(word, at);
+            return self.with_operand(to, word, at);
         }
-        if check::same(&word[..end], b"--default") {
-            let unit = end + 1;
-            return self.with_unit(&word[unit..]);
+        match &word[..end] {
+            b"--default" => {
+                let unit = end + 1;
+                self.with_unit(to, &word[unit..])
+            }
+            _ => self.with_operand(to, word, at),
         }
-        self.with_operand(word, at)
     }
 
-    fn with_unit(self, word: &[u8]) -> Words {
+    fn with_unit(self, to: Streams, word: &[u8]) -> Words {
         let unit = IntervalUnit::from_str(word);
         match unit {
             UnitRead::Unit(u) => self.in_unit(u),
-            UnitRead::None => self.bad(b"no such unit", word),
+            UnitRead::None => self.bad(to, b"no such unit", word),
         }
     }
 
@@ -174,32 +175,33 @@ impl Words {
     }
 
     // Standard input takes the place of a text.
-    fn with_input(mut self) -> Words {
+    fn with_input(mut self, to: Streams) -> Words {
         let reader = self.reader;
         match reader {
             Named::Is(_) => {
                 if self.input | (self.text != 0) {
-                    return self.bad(b"more than one text", b"-");
+                    return self.bad(to, b"more than one text", b"-");
                 }
                 self.input = true;
                 self
             }
-            Named::None => self.bad_reader(b"-"),
+            Named::None => self.bad_reader(to, b"-"),
         }
     }
 
     // The first word is the reader, the second the text.
-    fn with_operand(self, word: &[u8], at: usize) -> Words {
+    fn with_operand(self, to: Streams, word: &[u8], at: usize) -> Words {
         let reader = self.reader;
         match reader {
-            Named::Is(_) => self.with_text(word, at),
-            Named::None => self.with_reader(word),
+            Named::Is(_) => self.with_text(to, word, at),
+            Named::None => self.with_reader(to, word),
         }
     }
 
-    fn with_text(mut self, word: &[u8], at: usize) -> Words {
+    fn with_text(mut self, to: Streams, word: &[u8], at: usize) -> Words {
         if self.input | (self.text != 0) {
             return self.bad(
+                to,
                 b"more than one text; one with spaces stands in quotes",
                 word,
             );
@@ -208,11 +210,11 @@ impl Words {
         self
     }
 
-    fn with_reader(self, word: &[u8]) -> Words {
+    fn with_reader(self, to: Streams, word: &[u8]) -> Words {
         let reader = names::reader_of(word);
         match reader {
             Named::Is(r) => self.by_reader(r),
-            Named::None => self.bad_reader(word),
+            Named::None => self.bad_reader(to, word),
         }
     }
 
@@ -233,14 +235,14 @@ impl Words {
         }
     }
 
-    fn bad_reader(self, word: &[u8]) -> Words {
-        output::bad_word(b"no such reader", word);
-        help::names();
+    fn bad_reader(self, to: Streams, word: &[u8]) -> Words {
+        output::bad_word(to, b"no such reader", word);
+        help::names(to);
         self.stopped()
     }
 
-    fn bad(self, what: &[u8], word: &[u8]) -> Words {
-        output::bad_word(what, word);
+    fn bad(self, to: Streams, what: &[u8], word: &[u8]) -> Words {
+        output::bad_word(to, what, word);
         self.stopped()
     }
 

@@ -5,80 +5,51 @@ use stamp_column::{
     TimestampMicrosecondType, TimestampMillisecondType, TimestampNanosecondType,
     TimestampSecondType,
 };
+use std::io;
 use time_column::{
     Time32MillisecondType, Time32SecondType, Time64MicrosecondType, Time64NanosecondType,
 };
 
-pub fn of(name: &[u8], text: &[u8]) -> bool {
-    if stamp(name, text) {
-        return true;
+pub fn of(out: &impl Print, name: &[u8], text: &[u8]) -> io::Result<bool> {
+    if stamp(out, name, text)? {
+        return Ok(true);
     }
-    if time(name, text) {
-        return true;
+    if time(out, name, text)? {
+        return Ok(true);
     }
-    date(name, text)
+    date(out, name, text)
 }
 
-fn stamp(name: &[u8], text: &[u8]) -> bool {
-    if check::same(name, b"stamp") {
-        show::read64(timestamp::stamp::string_to_timestamp_nanos(text));
-        return true;
+fn stamp(out: &impl Print, name: &[u8], text: &[u8]) -> io::Result<bool> {
+    match name {
+        b"stamp" => show::read64(out, timestamp::stamp::string_to_timestamp_nanos(text))?,
+        b"site" => show::read64(out, site::site_stamp(text))?,
+        b"ts_ns" => show::read64(out, TimestampNanosecondType::parse(text))?,
+        b"ts_us" => show::read64(out, TimestampMicrosecondType::parse(text))?,
+        b"ts_ms" => show::read64(out, TimestampMillisecondType::parse(text))?,
+        b"ts_s" => show::read64(out, TimestampSecondType::parse(text))?,
+        _ => return Ok(false),
     }
-    if check::same(name, b"site") {
-        show::read64(site::site_stamp(text));
-        return true;
-    }
-    if check::same(name, b"ts_ns") {
-        show::read64(TimestampNanosecondType::parse(text));
-        return true;
-    }
-    if check::same(name, b"ts_us") {
-        show::read64(TimestampMicrosecondType::parse(text));
-        return true;
-    }
-    if check::same(name, b"ts_ms") {
-        show::read64(TimestampMillisecondType::parse(text));
-        return true;
-    }
-    if check::same(name, b"ts_s") {
-        show::read64(TimestampSecondType::parse(text));
-        return true;
-    }
-    false
+    Ok(true)
 }
 
-fn time(name: &[u8], text: &[u8]) -> bool {
-    if check::same(name, b"time") {
-        show::read64(time::string_to_time_nanoseconds(text));
-        return true;
+fn time(out: &impl Print, name: &[u8], text: &[u8]) -> io::Result<bool> {
+    match name {
+        b"time" => show::read64(out, time::string_to_time_nanoseconds(text))?,
+        b"t64_ns" => show::read64(out, Time64NanosecondType::parse(text))?,
+        b"t64_us" => show::read64(out, Time64MicrosecondType::parse(text))?,
+        b"t32_ms" => show::read32(out, Time32MillisecondType::parse(text))?,
+        b"t32_s" => show::read32(out, Time32SecondType::parse(text))?,
+        _ => return Ok(false),
     }
-    if check::same(name, b"t64_ns") {
-        show::read64(Time64NanosecondType::parse(text));
-        return true;
-    }
-    if check::same(name, b"t64_us") {
-        show::read64(Time64MicrosecondType::parse(text));
-        return true;
-    }
-    if check::same(name, b"t32_ms") {
-        show::read32(Time32MillisecondType::parse(text));
-        return true;
-    }
-    if check::same(name, b"t32_s") {
-        show::read32(Time32SecondType::parse(text));
-        return true;
-    }
-    false
+    Ok(true)
 }
 
-fn date(name: &[u8], text: &[u8]) -> bool {
-    if check::same(name, b"date32") {
-        show::read32(Date32Type::parse(text));
-        return true;
+fn date(out: &impl Print, name: &[u8], text: &[u8]) -> io::Result<bool> {
+    match name {
+        b"date32" => show::read32(out, Date32Type::parse(text))?,
+        b"date64" => show::read64(out, Date64Type::parse(text))?,
+        _ => return Ok(false),
     }
-    if check::same(name, b"date64") {
-        show::read64(Date64Type::parse(text));
-        return true;
-    }
-    false
+    Ok(true)
 }

@@ -1,6 +1,8 @@
 // Standard input, line by line, however long it is.
 use crate::{line, show};
 use lines::input::take_line;
+use std::io;
+use std::io::Read;
 
 // Where the reading stands.
 #[derive(Drop)]
@@ -11,62 +13,64 @@ struct Held {
     more: bool,
 }
 
-pub fn all() {
-    let mut space = io::large_buffer();
+pub fn all(out: &impl Print, input: &mut impl Read) -> io::Result<()> {
+    let mut space = [0u8; 65536];
     let mut held = Held { n: 0, more: true };
     // A proved loop has to end, and nothing says that the input does: no run uses up so many turns.
-    let mut turns = u64::MAX;
-    while turns > 0 && held.more {
-        held = read_some(held, &mut space);
-        turns -= 1;
+    for _ in 0..u64::MAX {
+        held = read_some(out, input, held.n, &mut space)?;
+        if !held.more {
+            break;
+        }
     }
     // A last line that no line feed ends.
     if held.n != 0 {
-        one(held.n, &space);
+        return one(out, held.n, &space);
     }
+    Ok(())
 }
 
-fn read_some(held: Held, space: &mut [u8]) -> Held {
-    let mut input = io::large_buffer();
-    let got = libc::read(0, &mut input);
-    if got < 0 {
-        io::write_all(2, b"readings: standard input cannot be read\n");
-    }
-    if got <= 0 {
-        return Held {
-            n: held.n,
+fn read_some(
+    out: &impl Print,
+    input: &mut impl Read,
+    held: usize,
+    space: &mut [u8],
+) -> io::Result<Held> {
+    let mut some = [0u8; 65536];
+    let got = input.read(&mut some)?;
+    if got == 0 {
+        return Ok(Held {
+            n: held,
             more: false,
-        };
+        });
     }
-    let n = io::count(got, &input);
-    each(held.n, &input[..n], space)
+    each(out, held, &some[..got], space)
 }
 
 // Answers each line that ends in these bytes, and holds the rest.
-fn each(start: usize, input: &[u8], space: &mut [u8]) -> Held {
+fn each(out: &impl Print, start: usize, input: &[u8], space: &mut [u8]) -> io::Result<Held> {
     let mut n = start;
     let mut i = 0;
     while i < input.len() {
         let taken = take_line(&input[i..], space, n);
         i += taken.next;
-        n = answered(taken, space);
+        n = answered(out, taken, space)?;
     }
-    Held { n, more: true }
+    Ok(Held { n, more: true })
 }
 
 // Answers a line that has ended, and tells how many bytes are held then.
-fn answered(taken: lines::Taken, space: &[u8]) -> usize {
+fn answered(out: &impl Print, taken: lines::Taken, space: &[u8]) -> io::Result<usize> {
     if taken.ended {
-        one(taken.held, space);
-        return 0;
+        one(out, taken.held, space)?;
+        return Ok(0);
     }
-    taken.held
+    Ok(taken.held)
 }
 
-fn one(n: usize, space: &[u8]) {
+fn one(out: &impl Print, n: usize, space: &[u8]) -> io::Result<()> {
     if space.len() < n {
-        show::bytes(b"a line longer than 65536 bytes is not read\n");
-        return;
+        return show::bytes(out, b"a line longer than 65536 bytes is not read\n");
     }
-    line::one(&space[..n]);
+    line::one(out, &space[..n])
 }

@@ -3,79 +3,74 @@ use crate::show;
 use interval::{DayTimeRead, YearMonthRead};
 use lines::names::default_unit;
 use place::{IntervalRefusal, MaybePlace};
+use std::io;
 use total::{IntervalParseConfig, IntervalRead};
 use unit::{IntervalUnit, UnitRead};
 
-pub fn of(name: &[u8], text: &[u8]) -> bool {
-    if check::same(name, b"interval") {
-        show_interval(interval::parse_interval_month_day_nano(text));
-        return true;
+pub fn of(out: &impl Print, name: &[u8], text: &[u8]) -> io::Result<bool> {
+    match name {
+        b"interval" => show_interval(out, interval::parse_interval_month_day_nano(text))?,
+        b"year_month" => show_months(out, interval::parse_interval_year_month(text))?,
+        b"day_time" => show_day_time(out, interval::parse_interval_day_time(text))?,
+        _ => match default_unit(name) {
+            UnitRead::Unit(u) => config(out, text, u)?,
+            UnitRead::None => return Ok(false),
+        },
     }
-    if check::same(name, b"year_month") {
-        show_months(interval::parse_interval_year_month(text));
-        return true;
-    }
-    if check::same(name, b"day_time") {
-        show_day_time(interval::parse_interval_day_time(text));
-        return true;
-    }
-    match default_unit(name) {
-        UnitRead::Unit(u) => {
-            config(text, u);
-            true
-        }
-        UnitRead::None => false,
-    }
+    Ok(true)
 }
 
-fn config(text: &[u8], default_unit: IntervalUnit) {
-    show_interval(interval::parse_interval_month_day_nano_config(
-        text,
-        IntervalParseConfig::new(default_unit),
-    ));
+fn config(out: &impl Print, text: &[u8], default_unit: IntervalUnit) -> io::Result<()> {
+    show_interval(
+        out,
+        interval::parse_interval_month_day_nano_config(
+            text,
+            IntervalParseConfig::new(default_unit),
+        ),
+    )
 }
 
-fn show_months(r: YearMonthRead) {
+fn show_months(out: &impl Print, r: YearMonthRead) -> io::Result<()> {
     match r {
-        YearMonthRead::Value(x) => show::signed32(x.0),
-        YearMonthRead::Refused(why) => refused(why),
+        YearMonthRead::Value(x) => show::signed32(out, x.0),
+        YearMonthRead::Refused(why) => refused(out, why),
     }
 }
 
 // Months, days and nanoseconds.
-fn show_interval(r: IntervalRead) {
+fn show_interval(out: &impl Print, r: IntervalRead) -> io::Result<()> {
     match r {
         IntervalRead::Value(x) => {
-            show::signed32(x.months.0);
-            show::bytes(b" ");
-            show::signed32(x.days.0);
-            show::bytes(b" ");
-            show::signed(x.nanos.0);
+            show::signed32(out, x.months.0)?;
+            show::bytes(out, b" ")?;
+            show::signed32(out, x.days.0)?;
+            show::bytes(out, b" ")?;
+            show::signed(out, x.nanos.0)
         }
-        IntervalRead::Refused(why) => refused(why),
+        IntervalRead::Refused(why) => refused(out, why),
     }
 }
 
 // Days and milliseconds.
-fn show_day_time(r: DayTimeRead) {
+fn show_day_time(out: &impl Print, r: DayTimeRead) -> io::Result<()> {
     match r {
         DayTimeRead::Value(x) => {
-            show::signed32(x.days.0);
-            show::bytes(b" ");
-            show::signed32(x.millis.0);
+            show::signed32(out, x.days.0)?;
+            show::bytes(out, b" ")?;
+            show::signed32(out, x.millis.0)
         }
-        DayTimeRead::Refused(why) => refused(why),
+        DayTimeRead::Refused(why) => refused(out, why),
     }
 }
 
 // The number, and behind it the place, where there is one.
-fn refused(why: IntervalRefusal) {
-    show::refused(why.refusal());
+fn refused(out: &impl Print, why: IntervalRefusal) -> io::Result<()> {
+    show::refused(out, why.refusal())?;
     match why.place() {
         MaybePlace::Some(at) => {
-            show::bytes(b" at ");
-            show::count(at);
+            show::bytes(out, b" at ")?;
+            show::count(out, at)
         }
-        MaybePlace::None => {}
+        MaybePlace::None => Ok(()),
     }
 }

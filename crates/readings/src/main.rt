@@ -2,6 +2,8 @@
 // that begins with # are written as they are.
 #![tactic(auto)]
 
+use std::io;
+
 mod answer;
 mod columns;
 mod input;
@@ -10,6 +12,6 @@ mod line;
 mod show;
 mod whole;
 
-fn main() {
-    input::all();
+fn main(rt: HostRuntime) -> io::Result<()> {
+    input::all(&rt, &mut rt.stdin())
 }

@@ -1,106 +1,101 @@
 // What is written: to standard output, with no line end.
 use room::{put_signed, put_signed32};
+use std::io;
 
-pub fn bytes(s: &[u8]) {
-    io::write_all(1, s);
+pub fn bytes(out: &impl Print, s: &[u8]) -> io::Result<()> {
+    out.write_all(s)
 }
 
-pub fn count(n: usize) {
-    io::print_decimal(1, n as u64);
+pub fn count(out: &impl Print, n: usize) -> io::Result<()> {
+    out.print(n)
 }
 
-pub fn signed(z: i64) {
-    let mut space = io::buffer();
+pub fn signed(out: &impl Print, z: i64) -> io::Result<()> {
+    let mut space = [0u8; 20];
     let n = put_signed(z, 0, &mut space);
-    bytes(&space[..n]);
+    bytes(out, &space[..n])
 }
 
-pub fn signed32(z: i32) {
-    let mut space = io::buffer();
+pub fn signed32(out: &impl Print, z: i32) -> io::Result<()> {
+    let mut space = [0u8; 20];
     let n = put_signed32(z, 0, &mut space);
-    bytes(&space[..n]);
+    bytes(out, &space[..n])
 }
 
-pub fn yes_or_no(test: bool) {
+pub fn yes_or_no(out: &impl Print, test: bool) -> io::Result<()> {
     if test {
-        bytes(b"yes");
+        bytes(out, b"yes")
     } else {
-        bytes(b"no");
+        bytes(out, b"no")
     }
 }
 
-pub fn int64(r: number::Int64) {
+pub fn int64(out: &impl Print, r: number::Int64) -> io::Result<()> {
     match r {
-        number::Int64::Some(z) => signed(z),
-        number::Int64::None => bytes(b"none"),
+        number::Int64::Some(z) => signed(out, z),
+        number::Int64::None => bytes(out, b"none"),
     }
 }
 
-pub fn int32(r: number::Int32) {
+pub fn int32(out: &impl Print, r: number::Int32) -> io::Result<()> {
     match r {
-        number::Int32::Some(z) => signed32(z),
-        number::Int32::None => bytes(b"none"),
+        number::Int32::Some(z) => signed32(out, z),
+        number::Int32::None => bytes(out, b"none"),
     }
 }
 
-pub fn nat32(r: number::Nat32) {
+pub fn nat32(out: &impl Print, r: number::Nat32) -> io::Result<()> {
     match r {
-        number::Nat32::Some(n) => signed(n as i64),
-        number::Nat32::None => bytes(b"none"),
+        number::Nat32::Some(n) => signed(out, n as i64),
+        number::Nat32::None => bytes(out, b"none"),
     }
 }
 
-pub fn day(r: calendar::Day) {
+pub fn day(out: &impl Print, r: calendar::Day) -> io::Result<()> {
     match r {
-        calendar::Day::Number(z) => signed(z),
-        calendar::Day::None => bytes(b"none"),
+        calendar::Day::Number(z) => signed(out, z),
+        calendar::Day::None => bytes(out, b"none"),
     }
 }
 
-pub fn read64(r: refusal::Read64) {
+pub fn read64(out: &impl Print, r: refusal::Read64) -> io::Result<()> {
     match r {
-        refusal::Read64::Value(z) => signed(z),
-        refusal::Read64::Refused(why) => refused(why),
+        refusal::Read64::Value(z) => signed(out, z),
+        refusal::Read64::Refused(why) => refused(out, why),
     }
 }
 
-pub fn read32(r: refusal::Read32) {
+pub fn read32(out: &impl Print, r: refusal::Read32) -> io::Result<()> {
     match r {
-        refusal::Read32::Value(z) => signed32(z),
-        refusal::Read32::Refused(why) => refused(why),
+        refusal::Read32::Value(z) => signed32(out, z),
+        refusal::Read32::Refused(why) => refused(out, why),
     }
 }
 
-pub fn refused(why: refusal::Refusal) {
-    bytes(b"refused ");
-    signed(why.number() as i64);
+pub fn refused(out: &impl Print, why: refusal::Refusal) -> io::Result<()> {
+    bytes(out, b"refused ")?;
+    signed(out, why.number() as i64)
 }
 
 // A text between bars, bytes that do not print as `\xHH`.
-pub fn text(s: &[u8]) {
-    bytes(b"|");
-    let mut i = 0;
-    while i < s.len() {
-        byte(s[i]);
-        i += 1;
+pub fn text(out: &impl Print, s: &[u8]) -> io::Result<()> {
+    bytes(out, b"|")?;
+    for b in s {
+        byte(out, *b)?;
     }
-    bytes(b"|");
+    bytes(out, b"|")
 }
 
-fn byte(b: u8) {
+fn byte(out: &impl Print, b: u8) -> io::Result<()> {
     if b < 0x20 {
-        escaped(b);
-        return;
+        return escaped(out, b);
     }
     if 0x7E < b {
-        escaped(b);
-        return;
+        return escaped(out, b);
     }
-    let one = [b];
-    bytes(&one);
+    bytes(out, &[b])
 }
 
-fn escaped(b: u8) {
-    bytes(b"\\x");
-    io::print_hex(1, b as u64, 2);
+fn escaped(out: &impl Print, b: u8) -> io::Result<()> {
+    print!(out; "\\x{b:02x}")
 }

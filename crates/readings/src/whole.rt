@@ -7,17 +7,17 @@ use cullpethi::cullpethi_parse_column;
 use lines::input::find;
 use number::Nat32;
 use number::parse::parse_u32;
+use std::io;
 
-pub fn of(text: &[u8]) {
+pub fn of(out: &impl Print, text: &[u8]) -> io::Result<()> {
     let bar = find(text, b'|');
     if text.len() <= bar {
-        show::bytes(b"no bar");
-        return;
+        return show::bytes(out, b"no bar");
     }
     let mut numbers = [0u32; 16];
     let n = numbers_in(&text[..bar], &mut numbers);
     let from = bar + 1;
-    checked(&numbers[..n], &text[from..]);
+    checked(out, &numbers[..n], &text[from..])
 }
 
 // The numbers in front, as far as there is room, and how many there are; what is no number counts as 0.
@@ -47,51 +47,59 @@ fn number(s: &[u8]) -> u32 {
 }
 
 // The column's number, how many cells, and the ends.
-fn checked(numbers: &[u32], texts: &[u8]) {
+fn checked(out: &impl Print, numbers: &[u32], texts: &[u8]) -> io::Result<()> {
     if numbers.len() < 2 {
-        show::bytes(b"no column or cells");
-        return;
+        return show::bytes(out, b"no column or cells");
     }
     if 255 < numbers[0] {
-        show::bytes(b"no number of a column");
-        return;
+        return show::bytes(out, b"no number of a column");
     }
     if 16 < numbers[1] {
-        show::bytes(b"too many cells");
-        return;
+        return show::bytes(out, b"too many cells");
     }
     let mut cells = [7i64; 16];
     let count = numbers[1] as usize;
-    called(numbers[0] as u8, texts, &numbers[2..], &mut cells[..count]);
+    called(
+        out,
+        numbers[0] as u8,
+        texts,
+        &numbers[2..],
+        &mut cells[..count],
+    )
 }
 
-fn called(column: u8, texts: &[u8], ends: &[u32], cells: &mut [i64]) {
+fn called(
+    out: &impl Print,
+    column: u8,
+    texts: &[u8],
+    ends: &[u32],
+    cells: &mut [i64],
+) -> io::Result<()> {
     let mut index = 99;
     let status = cullpethi_parse_column(column, texts, ends, cells, &mut index);
-    told(status, index);
-    held(cells);
+    told(out, status, index)?;
+    held(out, cells)
 }
 
 // The status, and the index where it was written.
-fn told(status: u8, index: usize) {
+fn told(out: &impl Print, status: u8, index: usize) -> io::Result<()> {
     if status == 0 {
-        show::bytes(b"accepted");
+        show::bytes(out, b"accepted")?;
     } else {
-        show::bytes(b"refused ");
-        show::count(status as usize);
+        show::bytes(out, b"refused ")?;
+        show::count(out, status as usize)?;
     }
     if index != 99 {
-        show::bytes(b" at ");
-        show::count(index);
+        show::bytes(out, b" at ")?;
+        show::count(out, index)?;
     }
-    show::bytes(b":");
+    show::bytes(out, b":")
 }
 
-fn held(cells: &[i64]) {
-    let mut i = 0;
-    while i < cells.len() {
-        show::bytes(b" ");
-        show::signed(cells[i]);
-        i += 1;
+fn held(out: &impl Print, cells: &[i64]) -> io::Result<()> {
+    for cell in cells {
+        show::bytes(out, b" ")?;
+        show::signed(out, *cell)?;
     }
+    Ok(())
 }

@@ -2,6 +2,8 @@
 use crate::line;
 use lines::Taken;
 use lines::input::take_line;
+use std::io;
+use std::io::Read;
 
 // How many lines passed and failed.
 #[derive(Drop)]
@@ -20,8 +22,8 @@ struct Held {
     more: bool,
 }
 
-pub fn all() -> Tally {
-    let mut space = io::large_buffer();
+pub fn all(out: &impl Print, input: &mut impl Read) -> io::Result<Tally> {
+    let mut space = [0u8; 65536];
     let mut held = Held {
         n: 0,
         tally: Tally {
@@ -31,30 +33,31 @@ pub fn all() -> Tally {
         more: true,
     };
     // A proved loop has to end, and nothing says that the input does: no run uses up so many turns.
-    let mut turns = u64::MAX;
-    while turns > 0 && held.more {
-        held = read_some(held, &mut space);
-        turns -= 1;
+    for _ in 0..u64::MAX {
+        held = read_some(out, input, held, &mut space)?;
+        if !held.more {
+            break;
+        }
     }
     // A last line that no line feed ends was cut short.
     if held.n == 0 {
-        return held.tally;
+        return Ok(held.tally);
     }
-    counted(held.tally, false)
+    Ok(counted(held.tally, false))
 }
 
-fn read_some(held: Held, space: &mut [u8]) -> Held {
-    let mut input = io::large_buffer();
-    let got = libc::read(0, &mut input);
-    if got < 0 {
-        io::write_all(2, b"replay: standard input cannot be read\n");
-        return stopped(held.n, counted(held.tally, false));
-    }
+fn read_some(
+    out: &impl Print,
+    input: &mut impl Read,
+    held: Held,
+    space: &mut [u8],
+) -> io::Result<Held> {
+    let mut some = [0u8; 65536];
+    let got = input.read(&mut some)?;
     if got == 0 {
-        return stopped(held.n, held.tally);
+        return Ok(stopped(held.n, held.tally));
     }
-    let n = io::count(got, &input);
-    ended_in(held, &input[..n], space)
+    ended_in(out, held, &some[..got], space)
 }
 
 fn stopped(n: usize, tally: Tally) -> Held {
@@ -66,39 +69,39 @@ fn stopped(n: usize, tally: Tally) -> Held {
 }
 
 // Compares each line that ends in these bytes, and holds the rest.
-fn ended_in(start: Held, input: &[u8], space: &mut [u8]) -> Held {
+fn ended_in(out: &impl Print, start: Held, input: &[u8], space: &mut [u8]) -> io::Result<Held> {
     let mut held = start;
     let mut i = 0;
     while i < input.len() {
         let taken = take_line(&input[i..], space, held.n);
         i += taken.next;
-        held = compared(held.tally, taken, space);
+        held = compared(out, held.tally, taken, space)?;
     }
-    held
+    Ok(held)
 }
 
 // Compares a line that has ended.
-fn compared(tally: Tally, taken: Taken, space: &[u8]) -> Held {
+fn compared(out: &impl Print, tally: Tally, taken: Taken, space: &[u8]) -> io::Result<Held> {
     if taken.ended {
-        let tally = counted(tally, passes(taken.held, space));
-        return Held {
+        let tally = counted(tally, passes(out, taken.held, space)?);
+        return Ok(Held {
             n: 0,
             tally,
             more: true,
-        };
+        });
     }
-    Held {
+    Ok(Held {
         n: taken.held,
         tally,
         more: true,
-    }
+    })
 }
 
-fn passes(n: usize, space: &[u8]) -> bool {
+fn passes(out: &impl Print, n: usize, space: &[u8]) -> io::Result<bool> {
     if space.len() < n {
-        return false;
+        return Ok(false);
     }
-    line::passes(&space[..n])
+    line::passes(out, &space[..n])
 }
 
 fn counted(tally: Tally, passed: bool) -> Tally {

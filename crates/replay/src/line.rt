@@ -4,37 +4,38 @@ ghost use Rattle.io.specs.Counts.{IsPrefixLen};
 use crate::reader;
 use lines::escape::unescape;
 use lines::input::find;
+use std::io;
 
 // Whether the library answers what is stored; else the line is written, with what was found.
-pub fn passes(line: &[u8]) -> bool {
+pub fn passes(out: &impl Print, line: &[u8]) -> io::Result<bool> {
     let a = find(line, b' ');
     if line.len() <= a {
-        return failed(line, b"no answer");
+        return failed(out, line, b"no answer");
     }
     let stored = a + 1;
-    answers(line, &line[..a], &line[stored..])
+    answers(out, line, &line[..a], &line[stored..])
 }
 
 // The stored answer and the text of a line, and the reader's name.
-fn answers(line: &[u8], name: &[u8], rest: &[u8]) -> bool {
+fn answers(out: &impl Print, line: &[u8], name: &[u8], rest: &[u8]) -> io::Result<bool> {
     let b = find(rest, b' ');
     if rest.len() <= b {
-        return failed(line, b"no text");
+        return failed(out, line, b"no text");
     }
     let text = b + 1;
     let mut answer = [0u8; 64];
     let n = answered(name, &rest[text..], &mut answer);
     if agree(&rest[..b], &answer[..n]) {
-        return true;
+        return Ok(true);
     }
-    failed(line, &answer[..n])
+    failed(out, line, &answer[..n])
 }
 
 // What the library answers to a text that a line writes; nothing where there is no such reader.
 fn answered(name: &[u8], written: &[u8], out: &mut [u8]) -> usize
     ensures { IsPrefixLen result out.new }
 {
-    let mut text = io::large_buffer();
+    let mut text = [0u8; 65536];
     let n = unescape(written, &mut text);
     reader::of(name, &text[..n], out)
 }
@@ -44,16 +45,20 @@ fn agree(stored: &[u8], found: &[u8]) -> bool {
     if found.len() == 0 {
         return false;
     }
-    if check::same(stored, b"r?") {
-        return check::same(found, b"r2") | check::same(found, b"r6");
+    match stored {
+        b"r?" => match found {
+            b"r2" => true,
+            b"r6" => true,
+            _ => false,
+        },
+        _ => stored == found,
     }
-    check::same(stored, found)
 }
 
-fn failed(line: &[u8], found: &[u8]) -> bool {
-    io::write_all(1, line);
-    io::write_all(1, b" found ");
-    io::write_all(1, found);
-    io::write_all(1, b"\n");
-    false
+fn failed(out: &impl Print, line: &[u8], found: &[u8]) -> io::Result<bool> {
+    out.write_all(line)?;
+    out.write_all(b" found ")?;
+    out.write_all(found)?;
+    out.write_all(b"\n")?;
+    Ok(false)
 }

@@ -2,15 +2,16 @@
 // Writes each line that differs with what was found, and at the end how many passed and failed.
 #![tactic(auto)]
 
+use std::io;
+
 mod answer;
 mod input;
 mod line;
 mod reader;
 
-fn main() {
-    let tally = input::all();
-    io::print_decimal(1, tally.passed);
-    io::write_all(1, b" passed, ");
-    io::print_decimal(1, tally.failed);
-    io::write_all(1, b" failed\n");
+fn main(rt: HostRuntime) -> io::Result<()> {
+    let tally = input::all(&rt, &mut rt.stdin())?;
+    let passed = tally.passed;
+    let failed = tally.failed;
+    println!(rt; "{passed} passed, {failed} failed")
 }

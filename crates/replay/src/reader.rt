@@ -17,68 +17,44 @@ use unit::UnitRead;
 pub fn of(name: &[u8], text: &[u8], out: &mut [u8]) -> usize
     ensures { IsPrefixLen result out.new }
 {
-    if check::same(name, b"stamp") {
-        return of64(timestamp::stamp::string_to_timestamp_nanos(text), out);
+    match name {
+        b"stamp" => of64(timestamp::stamp::string_to_timestamp_nanos(text), out),
+        b"ts_ns" => of64(TimestampNanosecondType::parse(text), out),
+        b"ts_us" => of64(TimestampMicrosecondType::parse(text), out),
+        b"ts_ms" => of64(TimestampMillisecondType::parse(text), out),
+        b"ts_s" => of64(TimestampSecondType::parse(text), out),
+        _ => time(name, text, out),
     }
-    if check::same(name, b"ts_ns") {
-        return of64(TimestampNanosecondType::parse(text), out);
-    }
-    if check::same(name, b"ts_us") {
-        return of64(TimestampMicrosecondType::parse(text), out);
-    }
-    if check::same(name, b"ts_ms") {
-        return of64(TimestampMillisecondType::parse(text), out);
-    }
-    if check::same(name, b"ts_s") {
-        return of64(TimestampSecondType::parse(text), out);
-    }
-    time(name, text, out)
 }
 
 fn time(name: &[u8], text: &[u8], out: &mut [u8]) -> usize
     ensures { IsPrefixLen result out.new }
 {
-    if check::same(name, b"time") {
-        return of64(time::string_to_time_nanoseconds(text), out);
+    match name {
+        b"time" => of64(time::string_to_time_nanoseconds(text), out),
+        b"t64_ns" => of64(Time64NanosecondType::parse(text), out),
+        b"t64_us" => of64(Time64MicrosecondType::parse(text), out),
+        b"t32_ms" => of32(Time32MillisecondType::parse(text), out),
+        b"t32_s" => of32(Time32SecondType::parse(text), out),
+        _ => date_or_interval(name, text, out),
     }
-    if check::same(name, b"t64_ns") {
-        return of64(Time64NanosecondType::parse(text), out);
-    }
-    if check::same(name, b"t64_us") {
-        return of64(Time64MicrosecondType::parse(text), out);
-    }
-    if check::same(name, b"t32_ms") {
-        return of32(Time32MillisecondType::parse(text), out);
-    }
-    if check::same(name, b"t32_s") {
-        return of32(Time32SecondType::parse(text), out);
-    }
-    date_or_interval(name, text, out)
 }
 
 fn date_or_interval(name: &[u8], text: &[u8], out: &mut [u8]) -> usize
     ensures { IsPrefixLen result out.new }
 {
-    if check::same(name, b"date32") {
-        return of32(Date32Type::parse(text), out);
-    }
-    if check::same(name, b"date64") {
-        return of64(Date64Type::parse(text), out);
-    }
-    if check::same(name, b"interval") {
-        return of_interval(interval::parse_interval_month_day_nano(text), out);
-    }
-    if check::same(name, b"year_month") {
-        return of_months(interval::parse_interval_year_month(text), out);
-    }
-    if check::same(name, b"day_time") {
-        return of_day_time(interval::parse_interval_day_time(text), out);
-    }
-    match default_unit(name) {
-        UnitRead::Unit(u) => of_interval(
-            interval::parse_interval_month_day_nano_config(text, IntervalParseConfig::new(u)),
-            out,
-        ),
-        UnitRead::None => 0,
+    match name {
+        b"date32" => of32(Date32Type::parse(text), out),
+        b"date64" => of64(Date64Type::parse(text), out),
+        b"interval" => of_interval(interval::parse_interval_month_day_nano(text), out),
+        b"year_month" => of_months(interval::parse_interval_year_month(text), out),
+        b"day_time" => of_day_time(interval::parse_interval_day_time(text), out),
+        _ => match default_unit(name) {
+            UnitRead::Unit(u) => of_interval(
+                interval::parse_interval_month_day_nano_config(text, IntervalParseConfig::new(u)),
+                out,
+            ),
+            UnitRead::None => 0,
+        },
     }
 }

@@ -6,7 +6,6 @@ use lib.IntN.{pos}
 use Rattle.calendar.proofs.Bounds.{Within, civil_most}
 use Rattle.text.specs.Digits.{value}
 use Rattle.clock.specs.Clock.{Clock, nanos_of}
-use Rattle.clock.specs.Grammar.{fraction}
 use Rattle.clock.proofs.Bounds.{figures_most, secfrac_most, clock_most}
 use Rattle.stamp_text.specs.Grammar.{Ymd, full_date, PartialTime, colons, basic, Stamp, date_alone, date_time}
 use Rattle.datetime.specs.Moment.{Moment}

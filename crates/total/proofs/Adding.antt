@@ -8,8 +8,8 @@ use native.Mathlib.Nat.{mul-le-mul, mul-le-mul_left, mul-le-mul_right, div-lt_if
 use native.Mathlib.Omega.{arith}
 use lib.IntN.{ℤ, pos, negsuc, neg_ℤ, nat_abs, ◌+ℤ◌, ◌-ℤ◌, ◌*ℤ◌}
 use lib.Signed.{lt_z, quot_z}
-use mir.Syntax.{Width, w32, w64}
-use mir.Val.{SFits, hbits, to_z}
+use mir.Syntax.{w32, w64}
+use mir.Val.{SFits, to_z}
 use mir.Facts.{to_z-of_z, to_z_pos}
 use Rattle.text.proofs.Bools.{by_test}
 use Rattle.number.specs.Widths.{in_signed, fit}

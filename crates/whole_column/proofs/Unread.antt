@@ -3,14 +3,14 @@
 use mathlib.Core.Path.{◌≡◌, refl, sym, ◌∙◌}
 use mathlib.Core.Bool.{true}
 use mathlib.Core.List.{List, [], ◌∷◌, ◌++◌}
-use Prim.Native.Nat.{ℕ, ◌-◌, ◌+◌, ◌≤◌, zero-le}
+use Prim.Native.Nat.{ℕ, ◌-◌, ◌≤◌, zero-le}
 use native.Mathlib.Omega.{arith}
 use lib.IntN.{ℤ}
 use lib.ListN.{length, take, drop, length-append, length-drop}
 use lib.Seq.{take-append-le, drop-append-le}
 use Rattle.refusal.specs.Outcome.{Outcome}
 use Rattle.text.proofs.Bools.{by_test, both_ways}
-use Rattle.whole_column.specs.Answer.{Whole, all_accepted, first_refused, not_read, in_order, cut, behind, whole}
+use Rattle.whole_column.specs.Answer.{Whole, all_accepted, first_refused, not_read, in_order, cut, whole}
 use Rattle.whole_column.specs.Meaning.{Means, accepts, refuses, bad_ends, too_few_cells}
 use Rattle.whole_column.proofs.Agreement.{in_order_lem, ordered, agrees}
 

@@ -1,7 +1,5 @@
 -- `amount::amount_at` meets its contract, by the laws of a sign; nothing stands past the end. Assumes nothing.
-use borrow.Author.Rules.{rules}
 use mathlib.Core.Path.{refl}
-use mathlib.Core.Logic.{⊎_elim}
 use native.Mathlib.Omega.{arith}
 use Rattle.amount.specs.Grammar.{precision}
 use Rattle.amount.specs.Read.{amount_is}
@@ -16,8 +14,8 @@ unfolding amount_is
 returns-then-text-at c = (past_text precision c.args.text.now c.args.at (omega (arith, c.if-text-at.true)), refl)
 
 pub unsigned_at-requires : goal.unsigned_at-requires
-unsigned_at-requires c = 
+unsigned_at-requires c =
     elim c.if-neg.branch [
-        then-neg w ↦ sign_minus c.args.text.now c.args.at c.byte_at-neg.ensures (eq-eqb _ _ w.if-neg.true) w.from-is
+      | then-neg w ↦ sign_minus c.args.text.now c.args.at c.byte_at-neg.ensures (eq-eqb _ _ w.if-neg.true) w.from-is
       | else-neg w ↦ sign_none c.args.text.now c.args.at c.byte_at-neg.ensures (omega (arith, c.if-text-at.false)) (ne_eqb _ _ w.if-neg.false) w.from-is
     ]

@@ -25,7 +25,7 @@ overflow_sub-next c =
     let in_count : Counts c.counted-n.result c.args.year = counts _ c.args.year (rw (to_z-of_z c.ranges.year) at c.counted-n.ensures.0) in
     let leap-year : eqb c.year_of_cycle-y.result.days 366 ≡ leap c.args.year = is_leap c.args.year _ (in_count) _ c.year_of_cycle-y.ensures.1 in
     let month-start : c.days_before-before.result ≡ before (leap c.args.year) c.args.month = rw leap-year at c.days_before-before.ensures in
-    let month :  c.days_before-next.result ≡ c.days_before-before.result + month_days (leap c.args.year) c.args.month = omega (arith, month-start, rw leap-year at c.days_before-next.ensures, next_before (leap c.args.year) c.args.month) in
+    let month : c.days_before-next.result ≡ c.days_before-before.result + month_days (leap c.args.year) c.args.month = omega (arith, month-start, rw leap-year at c.days_before-next.ensures, next_before (leap c.args.year) c.args.month) in
     omega (arith, month)
 
 pub returns-then-next-before : goal.returns-then-next-before
@@ -33,7 +33,7 @@ returns-then-next-before c =
     let in_count : Counts c.counted-n.result c.args.year = counts _ c.args.year (rw (to_z-of_z c.ranges.year) at c.counted-n.ensures.0) in
     let leap-year : eqb c.year_of_cycle-y.result.days 366 ≡ leap c.args.year = is_leap c.args.year _ (in_count) _ c.year_of_cycle-y.ensures.1 in
     let month-start : c.days_before-before.result ≡ before (leap c.args.year) c.args.month = rw leap-year at c.days_before-before.ensures in
-    let month :  c.days_before-next.result ≡ c.days_before-before.result + month_days (leap c.args.year) c.args.month = omega (arith, month-start, rw leap-year at c.days_before-next.ensures, next_before (leap c.args.year) c.args.month) in
+    let month : c.days_before-next.result ≡ c.days_before-before.result + month_days (leap c.args.year) c.args.month = omega (arith, month-start, rw leap-year at c.days_before-next.ensures, next_before (leap c.args.year) c.args.month) in
     too_late c.args.year c.args.month c.args.day_of_month (omega (arith, month, c.if-next-before.true))
 
 pub overflow_sub-result : goal.overflow_sub-result
@@ -46,7 +46,7 @@ returns c =
     let in_count : Counts c.counted-n.result c.args.year = counts _ c.args.year (rw (to_z-of_z c.ranges.year) at c.counted-n.ensures.0) in
     let leap-year : eqb c.year_of_cycle-y.result.days 366 ≡ leap c.args.year = is_leap c.args.year _ (in_count) _ c.year_of_cycle-y.ensures.1 in
     let month-start : c.days_before-before.result ≡ before (leap c.args.year) c.args.month = rw leap-year at c.days_before-before.ensures in
-    let month :  c.days_before-next.result ≡ c.days_before-before.result + month_days (leap c.args.year) c.args.month = omega (arith, month-start, rw leap-year at c.days_before-next.ensures, next_before (leap c.args.year) c.args.month) in
+    let month : c.days_before-next.result ≡ c.days_before-before.result + month_days (leap c.args.year) c.args.month = omega (arith, month-start, rw leap-year at c.days_before-next.ensures, next_before (leap c.args.year) c.args.month) in
     let n = c.counted-n.result in
     let fits : c.counted-n.result / 400 * 146097 + c.year_of_cycle-y.result.start + c.days_before-before.result + (c.args.day_of_month - 1) < 2 ^ 63 = omega arith in
     rw (to_z-of_z (difference fits 784353144398 (lit< tt)))

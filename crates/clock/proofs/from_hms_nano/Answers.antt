@@ -4,8 +4,7 @@ use mathlib.Core.Bool.{true, ◌&&◌}
 use mathlib.Core.Path.{◌≡◌, ap}
 use native.Mathlib.Omega.{arith}
 use lib.Dec.{ltb}
-use borrow.Author.Tests.{not-true, not-false, ltb-true}
-use borrow.Author.Rules.{rules}
+use borrow.Author.Tests.{ltb-true}
 use Rattle.text.proofs.Bools.{and_right}
 use Rattle.clock.specs.Clock.{in_range}
 use Rattle.clock.proofs.from_hms_nano.Goals as goal

@@ -1,16 +1,11 @@
 -- `clock::parse_nanos` meets its contract. The loop's invariant: the digits from i on, behind the number of those before, are what all
 -- count, and with those before as many as all. The measure is what is left of nine. Assumes nothing.
-use mathlib.Core.Path.{◌≡◌, refl, sym, ◌∙◌}
-use mathlib.Core.List.{List}
-use Prim.Native.Nat.{ℕ, ◌+◌, ◌*◌, ◌-◌, ◌≤◌, ◌<◌}
-use native.Mathlib.Omega.{arith}
-use lib.ListN.{get_or, length, drop}
-use borrow.Author.Rules.{rules}
-use Rattle.text.specs.Digits.{digit_of, run}
-use Rattle.text.proofs.Runs.{run_digits}
+use mathlib.Core.Path.{◌≡◌}
+use Prim.Native.Nat.{◌+◌, ◌-◌, ◌≤◌}
+use lib.ListN.{length, drop}
+use Rattle.text.specs.Digits.{run}
 use Rattle.clock.specs.Clock.{nanos_of}
-use Rattle.clock.proofs.Bounds.{nanos_below}
-use Rattle.clock.proofs.Nanos.{behind, led, all_counted, grows_behind, inside, ends_here, goes_on, no_digit_here, digit_here}
+use Rattle.clock.proofs.Nanos.{behind, led}
 use Rattle.clock.proofs.parse_nanos.Given as goal
 
 abbrev pub invariant-loop-i : goal.invariant-loop-i

@@ -4,7 +4,6 @@ use native.Mathlib.Omega.{arith}
 use Prim.Native.Nat.{◌≤◌}
 use lib.ListN.{length, drop}
 use Rattle.amount.proofs.AmountLaws.{past_text}
-use borrow.Author.Rules.{rules}
 use Rattle.amount.specs.Grammar.{precision}
 use Rattle.component.specs.Read.{piece_is, place_after, taken_is}
 use Rattle.component.proofs.Steps.{past_end}

@@ -11,7 +11,6 @@ use Rattle.stamp_text.proofs.Agreement.{agrees}
 use Rattle.stamp_text.proofs.Bounds.{moment_most}
 use Rattle.date_column.specs.Answer.{millis}
 use Rattle.number.proofs.Zed.{near}
-use borrow.Author.Rules.{rules}
 use Rattle.date_column.proofs.stamp_millis.Goals as goal
 
 abbrev in_millis : Outcome Moment → Outcome ℤ

@@ -1,6 +1,5 @@
 -- `date_column::timestamp_millis` meets its contract, by the laws of milliseconds. Assumes nothing.
 use Rattle.date_column.proofs.Millis.{seconds_of_day, all_seconds, thousandfold, all_millis, millis_are}
-use borrow.Author.Rules.{rules}
 use Rattle.date_column.proofs.timestamp_millis.Goals as goal
 
 pub overflow_mul-result : goal.overflow_mul-result

@@ -1,6 +1,5 @@
 -- `datetime::nanos_of` meets its contract, by the laws of seconds and their size. Assumes nothing.
 use mathlib.Core.Path.{ap, ◌∙◌}
-use borrow.Author.Rules.{rules}
 use Rattle.number.specs.Widths.{fit}
 use Rattle.datetime.proofs.Instants.{too_far, from_zero, below_zero, across_zero}
 use Rattle.datetime.proofs.nanos_of.Goals as goal

@@ -1,5 +1,4 @@
 -- `interval::parse_interval_day_time` meets its contract: the interval of the text, narrowed. Assumes nothing.
-use borrow.Author.Rules.{rules}
 use mathlib.Core.Path.{sym, ap, ◌∙◌}
 use Rattle.rule.specs.Answer.{to_day_time, day_time}
 use Rattle.total.specs.Read.{interval_outcome, place_read}

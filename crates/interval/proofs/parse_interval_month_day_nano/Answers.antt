@@ -1,5 +1,4 @@
 -- `interval::parse_interval_month_day_nano` meets its contract, with months for a unit that is left out. Assumes nothing.
-use borrow.Author.Rules.{rules}
 use Rattle.rule.specs.Answer.{plain_month_day_nano}
 use Rattle.interval.proofs.parse_interval_month_day_nano.Goals as goal
 

@@ -1,5 +1,4 @@
 -- `interval::parse_interval_month_day_nano_config` meets its contract: what is computed is what the text means. Assumes nothing.
-use borrow.Author.Rules.{rules}
 use Rattle.rule.proofs.Demand3.{meant}
 use Rattle.interval.proofs.Narrower.{with_place}
 use Rattle.interval.proofs.parse_interval_month_day_nano_config.Goals as goal

@@ -1,5 +1,4 @@
 -- `interval::parse_interval_year_month` meets its contract: the interval of the text, narrowed. Assumes nothing.
-use borrow.Author.Rules.{rules}
 use mathlib.Core.Path.{sym, ap, ◌∙◌}
 use Rattle.rule.specs.Answer.{to_year_months, year_month}
 use Rattle.total.specs.Read.{interval_outcome, place_read}

@@ -6,7 +6,6 @@ use lib.ListN.{get_or, length}
 use Rattle.text.specs.Digits.{digit_of}
 use Rattle.text.proofs.Parts.{rest}
 use Rattle.parser.proofs.Fractions.{point_inside, no_point, point_alone, fraction}
-use borrow.Author.Rules.{rules}
 use Rattle.parser.proofs.after_seconds.Goals as goal
 
 pub returns-then-digit-ne-POINT : goal.returns-then-digit-ne-POINT

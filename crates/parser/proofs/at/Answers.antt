@@ -1,9 +1,6 @@
 -- `parser::at` meets its contract: a time of the clock with the bytes after it. Assumes nothing.
 use mathlib.Core.Path.{◌≡◌, sym, ap, ◌∙◌}
-use mathlib.Core.List.{List}
-use Prim.Native.Nat.{ℕ}
 use lib.ListN.{drop}
-use borrow.Author.Rules.{rules}
 use Rattle.clock.specs.declared.Time.{Time}
 use Rattle.clock.specs.Clock.{time_is}
 use Rattle.stamp_text.specs.Answer.{timed_at}

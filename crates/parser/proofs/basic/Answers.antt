@@ -1,6 +1,5 @@
 -- `parser::basic` meets its contract, by the laws of a time without colons. Assumes nothing.
 use mathlib.Core.Path.{ap, ◌∙◌}
-use borrow.Author.Rules.{rules}
 use Rattle.text.specs.Digits.{digit_of}
 use Rattle.parser.proofs.Times.{BasicRead, no_time, without_colons}
 use Rattle.parser.proofs.basic.Goals as goal

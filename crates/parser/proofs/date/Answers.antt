@@ -2,7 +2,6 @@
 use mathlib.Core.Path.{◌∙◌}
 use mir.Facts.{to_z_pos}
 use mir.Syntax.{w32}
-use borrow.Author.Rules.{rules}
 use Rattle.parser.proofs.Dates.{DateRead, no_date, a_date, short_of_date}
 use native.Mathlib.Omega.{arith}
 use Rattle.parser.proofs.date.Goals as goal

@@ -1,6 +1,5 @@
 -- `parser::time` meets its contract, by the laws of a time with colons and of one cut short. Assumes nothing.
 use mathlib.Core.Path.{◌∙◌}
-use borrow.Author.Rules.{rules}
 use Rattle.parser.proofs.Times.{ColonsRead, no_colons, with_colons, short_of_colons, short_of_time}
 use Rattle.parser.proofs.time.Goals as goal
 

@@ -1,9 +1,9 @@
 use mathlib.Core.Path.{◌≡◌, sym}
-use mathlib.Core.List.{◌∷◌, ◌++◌}
-use Prim.Native.Nat.{◌+◌, ◌-◌, ◌≤◌}
+use mathlib.Core.List.{◌∷◌}
+use Prim.Native.Nat.{◌+◌}
 use native.Mathlib.Omega.{arith}
 use native.Mathlib.Numerals.{add-one}
-use lib.ListN.{length, get_or, take, drop, length-set, drop_of_length-le}
+use lib.ListN.{length, get_or, drop, length-set, drop_of_length-le}
 use lib.Seq.{drop-cons, length-take-le}
 use Rattle.room.proofs.Filling.{one_more, full, all, within_room}
 use borrow.Author.Rules.{rules}

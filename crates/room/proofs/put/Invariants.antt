@@ -1,13 +1,8 @@
 -- `room::put` meets its contract. The loop's invariant: what is put and what is left to put make the whole. Assumes nothing.
-use mathlib.Core.Path.{◌≡◌, sym}
-use mathlib.Core.List.{◌∷◌, ◌++◌}
-use Prim.Native.Nat.{◌+◌, ◌-◌, ◌≤◌}
-use native.Mathlib.Omega.{arith}
-use native.Mathlib.Numerals.{add-one}
-use lib.ListN.{length, get_or, take, drop, length-set, drop_of_length-le}
-use lib.Seq.{drop-cons, length-take-le}
-use Rattle.room.proofs.Filling.{one_more, full, all, within_room}
-use borrow.Author.Rules.{rules}
+use mathlib.Core.Path.{◌≡◌}
+use mathlib.Core.List.{◌++◌}
+use Prim.Native.Nat.{◌-◌, ◌≤◌}
+use lib.ListN.{length, take, drop}
 use Rattle.room.proofs.put.Given as goal
 
 abbrev pub invariant-loop-i : goal.invariant-loop-i

@@ -8,4 +8,4 @@ use borrow.Author.Rules.{rules}
 use Rattle.room.proofs.put_number.Goals as goal
 
 pub returns : goal.returns
-returns c = (c.put.ensures.0, c.put.ensures.1 ∙ ap (λ (t : List ℕ). appended c.args.n t c.args.out.now) (c.decimal-k.ensures.1.1 ∙ as_decimal c.decimal-k.result c.args.number (search rules) c.decimal-k.ensures.1.0))
+returns c = (c.put.ensures.0, c.put.ensures.1 ∙ ap (λ (t : List ℕ). appended c.args.n t c.args.out.now) (c.decimal-k.ensures.digits ∙ as_decimal c.decimal-k.result c.args.number (search rules) c.decimal-k.ensures.len))

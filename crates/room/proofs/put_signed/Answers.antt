@@ -13,4 +13,4 @@ pub returns-then-z-ge0 : goal.returns-then-z-ge0
 returns-then-z-ge0 c = (c.put_number.ensures.0, c.put_number.ensures.1 ∙ ap (λ (t : List ℕ). appended c.args.n t c.args.out.now) (with_no_sign c.ranges.z c.magnitude-size.result c.magnitude-size.ensures c.if-z-ge0.true))
 
 pub returns : goal.returns
-returns c = (c.put_number-2.ensures.0, c.put_number-2.ensures.1 ∙ (twice c.?args.n c.put-minus.result (0x2D ∷ []) (decimal c.magnitude-size.result) c.?args.out.now c.put-minus.new.1.1.0 (search rules) c.put-minus.ensures.1 ∙ ap (λ (t : List ℕ). appended c.?args.n t c.?args.out.now) (with_minus c.?ranges.z c.magnitude-size.result c.magnitude-size.ensures c.if-z-ge0.false)))
+returns c = (c.put_number-2.ensures.0, c.put_number-2.ensures.1 ∙ (twice c.args.n c.put-minus.result (0x2D ∷ []) (decimal c.magnitude-size.result) c.args.out.now c.put-minus.new.out (search rules) c.put-minus.ensures.1 ∙ ap (λ (t : List ℕ). appended c.args.n t c.args.out.now) (with_minus c.ranges.z c.magnitude-size.result c.magnitude-size.ensures c.if-z-ge0.false)))

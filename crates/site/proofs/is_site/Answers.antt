@@ -1,6 +1,5 @@
 -- `site::is_site` meets its contract, by the laws of a site stamp's tests. Assumes nothing.
 use Rattle.site.proofs.SiteTests.{site_test_lem, too_short}
-use borrow.Author.Rules.{rules}
 use Rattle.site.proofs.is_site.Goals as goal
 
 pub returns-then-n-lt19 : goal.returns-then-n-lt19

@@ -1,7 +1,6 @@
 -- `site::on_site` meets its contract. Assumes nothing.
 use mathlib.Core.Path.{sym, ◌∙◌}
 use mir.Facts.{to_z-of_z}
-use borrow.Author.Rules.{rules}
 use Rattle.site.proofs.on_site.Goals as goal
 
 pub returns-then-is_site : goal.returns-then-is_site

@@ -1,6 +1,5 @@
 -- `time::after_hour` meets its contract, by the laws of two minute digits. Assumes nothing.
 use mathlib.Core.Path.{◌∙◌}
-use borrow.Author.Rules.{rules}
 use Rattle.time.proofs.Fields.{no_minutes, with_minutes}
 use Rattle.time.proofs.after_hour.Goals as goal
 

@@ -2,7 +2,6 @@
 use mathlib.Core.Path.{◌≡◌, sym, ap, ◌∙◌}
 use Prim.Native.Nat.{◌+◌}
 use lib.ListN.{drop}
-use borrow.Author.Rules.{rules}
 use Rattle.time.specs.declared.Fraction.{Fraction}
 use Rattle.time.specs.Answer.{in_day, fraction_of, with_fraction, after_minutes}
 use Rattle.time.specs.Helpers.{fraction_is}

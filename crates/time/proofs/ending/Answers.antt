@@ -2,7 +2,6 @@
 use mathlib.Core.Path.{◌∙◌}
 use lib.ListN.{length}
 use borrow.Author.Tests.{lt-ltb, le-ltb}
-use borrow.Author.Rules.{rules}
 use Rattle.time.proofs.ending.Goals as goal
 
 pub returns-then-n-lt4 : goal.returns-then-n-lt4

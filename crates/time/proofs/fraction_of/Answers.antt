@@ -2,7 +2,6 @@
 use Prim.Native.Nat.{◌+◌}
 use Rattle.text.proofs.Parts.{rest}
 use Rattle.time.proofs.Fractions.{no_fraction, no_point, point_alone, bytes_after, whole_fraction}
-use borrow.Author.Rules.{rules}
 use Rattle.time.proofs.fraction_of.Goals as goal
 
 pub returns-then-s-at : goal.returns-then-s-at

@@ -1,7 +1,6 @@
 -- `time::from_hour` meets its contract, by the laws of one and of two hour digits. Assumes nothing.
 use mathlib.Core.Path.{◌≡◌, ap, ◌∙◌}
 use lib.ListN.{get_or}
-use borrow.Author.Rules.{rules}
 use Rattle.text.specs.Digits.{digit_of}
 use Rattle.time.proofs.Fields.{one_digit, two_digits_lem, no_hour}
 use Rattle.time.proofs.from_hour.Goals as goal

@@ -1,6 +1,5 @@
 -- `time::in_day` meets its contract, by the law of a clock's fields. Assumes nothing.
 use mathlib.Core.Path.{◌∙◌}
-use borrow.Author.Rules.{rules}
 use Rattle.time.proofs.Fields.{of_clock}
 use Rattle.time.proofs.in_day.Goals as goal
 

@@ -1,8 +1,4 @@
 -- `time::of_twelve` meets its contract. Assumes nothing.
-use mathlib.Core.Bool.{◌&&◌}
-use lib.Dec.{leb}
-use borrow.Author.Tests.{not-true, not-false}
-use borrow.Author.Rules.{rules}
 use Rattle.time.proofs.of_twelve.Goals as goal
 
 pub returns-then-not-fits : goal.returns-then-not-fits

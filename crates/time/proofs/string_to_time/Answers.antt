@@ -1,6 +1,5 @@
 -- `time::string_to_time` meets its contract, by the law of the half of the day. Assumes nothing.
 use mathlib.Core.Path.{sym, ap, ◌∙◌}
-use borrow.Author.Rules.{rules}
 use Rattle.time.specs.declared.Half.TheVariants.{Am, Pm}
 use Rattle.time.specs.Answer.{from_hour}
 use Rattle.time.proofs.Fields.{by_half, long_enough}

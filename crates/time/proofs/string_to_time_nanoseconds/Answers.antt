@@ -3,7 +3,6 @@ use mathlib.Core.Path.{◌≡◌, sym, ap, ◌∙◌}
 use mathlib.Core.Option.{some}
 use mir.Syntax.{w64}
 use mir.Facts.{to_z-of_z}
-use borrow.Author.Rules.{rules}
 use Rattle.clock.specs.Clock.{nanos_of_day, time_is}
 use Rattle.refusal.proofs.Outcomes.{refused_in}
 use Rattle.time.specs.Answer.{time_of_day, on_time}

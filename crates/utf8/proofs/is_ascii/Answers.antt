@@ -1,9 +1,5 @@
-use mathlib.Core.Path.{◌≡◌, sym, ◌∙◌}
-use Prim.Native.Nat.{◌-◌, ◌≤◌}
-use borrow.Author.Rules.{rules}
+use mathlib.Core.Path.{sym, ◌∙◌}
 use native.Mathlib.Omega.{arith}
-use lib.ListN.{length, drop}
-use Rattle.utf8.specs.Utf8.{ascii}
 use Rattle.utf8.proofs.Ascii.{ascii_on, ascii_off, ascii_end}
 use Rattle.utf8.proofs.is_ascii.Goals as goal
 
@@ -12,9 +8,9 @@ returns-then-s-i-ge128 c = sym (ascii_off c.args.s.now c.loop-i.i c.loop-i-test.
 
 pub loop-i-preserved : goal.loop-i-preserved
 loop-i-preserved c = (
-      omega arith,
-      sym (ascii_on c.args.s.now c.loop-i.i c.loop-i-test.true (omega arith)) ∙ c.loop-i.invariant.1,
-    )
+  omega arith,
+  sym (ascii_on c.args.s.now c.loop-i.i c.loop-i-test.true (omega arith)) ∙ c.loop-i.invariant.1,
+)
 
 pub returns : goal.returns
 returns c = sym (ascii_end c.args.s.now c.loop-i.i c.loop-i-test.false) ∙ c.loop-i.invariant.1

@@ -1,11 +1,8 @@
 -- `utf8::is_ascii` meets its contract. The loop's invariant: what is left is ASCII where the whole is. Assumes nothing.
-use mathlib.Core.Path.{◌≡◌, sym, ◌∙◌}
+use mathlib.Core.Path.{◌≡◌}
 use Prim.Native.Nat.{◌-◌, ◌≤◌}
-use borrow.Author.Rules.{rules}
-use native.Mathlib.Omega.{arith}
 use lib.ListN.{length, drop}
 use Rattle.utf8.specs.Utf8.{ascii}
-use Rattle.utf8.proofs.Ascii.{ascii_on, ascii_off, ascii_end}
 use Rattle.utf8.proofs.is_ascii.Given as goal
 
 abbrev pub invariant-loop-i : goal.invariant-loop-i

@@ -1,10 +1,5 @@
-use mathlib.Core.Path.{◌≡◌, sym, ◌∙◌}
-use mathlib.Core.Logic.{⊎_elim}
-use Prim.Native.Nat.{◌-◌, ◌≤◌}
-use borrow.Author.Rules.{rules}
+use mathlib.Core.Path.{sym, ◌∙◌}
 use native.Mathlib.Omega.{arith}
-use lib.ListN.{length, drop}
-use Rattle.utf8.specs.Utf8.{well_formed, utf8}
 use Rattle.utf8.proofs.Utf8Steps.{first, next, below, above, at_end}
 use Rattle.utf8.proofs.is_well_formed.Goals as goal
 use Rattle.utf8.proofs.is_well_formed.Goals.{then-count-eq0, else-count-eq0+else-b-low+else-high-b}
@@ -20,7 +15,7 @@ loop-i-preserved c = let s = c.args.s.now in
     let h = c.loop-i-test.true in (
       omega arith,
       elim c.if-count-eq0.branch [
-          then-count-eq0 w ↦ rw (w.count-is, w.low-is, w.high-is) (sym (first s c.loop-i.i c.loop-i.count c.loop-i.low c.loop-i.high w.follow-f.result h w.if-count-eq0.true w.follow-f.ensures) ∙ c.loop-i.invariant.1)
+        | then-count-eq0 w ↦ rw (w.count-is, w.low-is, w.high-is) (sym (first s c.loop-i.i c.loop-i.count c.loop-i.low c.loop-i.high w.follow-f.result h w.if-count-eq0.true w.follow-f.ensures) ∙ c.loop-i.invariant.1)
         | else-count-eq0+else-b-low+else-high-b w ↦ rw (w.count-is, w.low-is, w.high-is) (sym (next s c.loop-i.i c.loop-i.low c.loop-i.high h c.loop-i.count w.if-count-eq0.false w.if-b-low.false w.if-high-b.false) ∙ c.loop-i.invariant.1)
       ],
     )

@@ -1,13 +1,9 @@
 -- `utf8::is_well_formed` meets its contract. The loop's invariant: what is left, in the state that is reached, is well-formed where the
 -- whole is. Assumes nothing.
-use mathlib.Core.Path.{◌≡◌, sym, ◌∙◌}
-use mathlib.Core.Logic.{⊎_elim}
+use mathlib.Core.Path.{◌≡◌}
 use Prim.Native.Nat.{◌-◌, ◌≤◌}
-use borrow.Author.Rules.{rules}
-use native.Mathlib.Omega.{arith}
 use lib.ListN.{length, drop}
 use Rattle.utf8.specs.Utf8.{well_formed, utf8}
-use Rattle.utf8.proofs.Utf8Steps.{first, next, below, above, at_end}
 use Rattle.utf8.proofs.is_well_formed.Given as goal
 
 abbrev pub invariant-loop-i : goal.invariant-loop-i

@@ -1,6 +1,5 @@
 -- `white::white_at` meets its contract. Assumes nothing.
 use mathlib.Core.Path.{◌≡◌, sym, ◌∙◌}
-use borrow.Author.Rules.{rules}
 use native.Mathlib.Omega.{arith}
 use lib.ListN.{drop, length-drop, drop_of_length-le}
 use Rattle.white.specs.WhiteSpace.{white_len}

@@ -1,6 +1,5 @@
 -- `white::white_of` meets its contract. Assumes nothing.
 use mathlib.Core.Path.{sym, ◌∙◌}
-use borrow.Author.Rules.{rules}
 use Rattle.white.specs.WhiteSpace.{white_of}
 use Rattle.white.proofs.white_of.Goals as goal
 

@@ -3,7 +3,6 @@ use mathlib.Core.Path.{sym, ◌∙◌}
 use Prim.Native.Nat.{◌+◌}
 use native.Mathlib.Omega.{arith}
 use lib.Seq.{length-take-le}
-use borrow.Author.Rules.{rules}
 use Rattle.text.proofs.Parts.{rest}
 use Rattle.ymd.proofs.Hyphens.{short_year, one_hyphen_less, no_day, in_parts}
 use Rattle.ymd.proofs.parse_extended_ymd.Goals as goal

@@ -1,6 +1,5 @@
 -- `ymd::short_day` meets its contract, by the laws of byte 4. Assumes nothing.
 use mathlib.Core.Path.{ap, ◌∙◌}
-use borrow.Author.Rules.{rules}
 use Rattle.text.specs.Digits.{digit_of}
 use Rattle.ymd.proofs.Shapes.{with_hyphens, without_hyphens}
 use Rattle.ymd.proofs.short_day.Goals as goal

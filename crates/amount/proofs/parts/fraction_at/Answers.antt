@@ -1,12 +1,11 @@
-use borrow.Author.Rules.{rules}
 use mathlib.Core.Path.{refl}
-use Prim.Native.Nat.{◌*◌, ◌-◌}
+use Prim.Native.Nat.{◌*◌}
 use native.Mathlib.Omega.{arith}
 use mir.Facts.{to_z-of_z}
 use Rattle.amount.specs.Grammar.{precision}
 use Rattle.amount.specs.Read.{amount_is}
 use Rattle.amount.proofs.Amounts.{no_fraction, long_fraction, size_cast, size_flips, size_minus, size_plus}
-use Rattle.amount.proofs.Fractions.{Reading, reading_first, reading_next, size_below, number_below, free, too_many, end_is, fraction_read}
+use Rattle.amount.proofs.Fractions.{reading_first, reading_next, size_below, number_below, free, too_many, end_is, fraction_read}
 use Rattle.amount.proofs.parts.fraction_at.Goals as goal
 
 pub loop-d-init : goal.loop-d-init

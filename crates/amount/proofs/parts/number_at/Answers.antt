@@ -1,12 +1,7 @@
-use mathlib.Core.Path.{◌≡◌, sym, ◌∙◌}
-use Prim.Native.Nat.{◌+◌, ◌-◌, ◌≤◌}
+use mathlib.Core.Path.{sym, ◌∙◌}
 use native.Mathlib.Omega.{arith}
-use lib.ListN.{length, drop}
-use borrow.Author.Rules.{rules}
-use Rattle.text.specs.Digits.{run}
 use Rattle.text.proofs.DigitLaws.{run_on, run_off, run_end}
-use Rattle.amount.specs.Found.{cap}
-use Rattle.amount.proofs.Amounts.{number_on, number_end, number_off, number_more}
+use Rattle.amount.proofs.Amounts.{number_end, number_off, number_more}
 use Rattle.amount.proofs.parts.number_at.Goals as goal
 
 pub returns-then-d-ge10 : goal.returns-then-d-ge10

@@ -1,14 +1,11 @@
 -- `amount::parts::number_at` meets its contract. The loop's invariant: what is read so far goes on to the number of the digits, and
 -- they end where the run does. The measure is what is left of the text. Assumes nothing.
-use mathlib.Core.Path.{◌≡◌, sym, ◌∙◌}
+use mathlib.Core.Path.{◌≡◌}
 use Prim.Native.Nat.{◌+◌, ◌-◌, ◌≤◌}
-use native.Mathlib.Omega.{arith}
 use lib.ListN.{length, drop}
-use borrow.Author.Rules.{rules}
 use Rattle.text.specs.Digits.{run}
-use Rattle.text.proofs.DigitLaws.{run_on, run_off, run_end}
 use Rattle.amount.specs.Found.{cap}
-use Rattle.amount.proofs.Amounts.{number_on, number_end, number_off, number_more}
+use Rattle.amount.proofs.Amounts.{number_on}
 use Rattle.amount.proofs.parts.number_at.Given as goal
 
 abbrev pub invariant-loop-i : goal.invariant-loop-i

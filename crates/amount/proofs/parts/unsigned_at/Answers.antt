@@ -1,5 +1,4 @@
 -- `amount::parts::unsigned_at` meets its contract, by the laws of a whole part with its sign. Assumes nothing.
-use borrow.Author.Rules.{rules}
 use mathlib.Core.Path.{refl, sym, ap, ◌∙◌}
 use lib.ListN.{take, drop}
 use Rattle.text.specs.Digits.{value, run}

@@ -14,14 +14,19 @@ use Rattle.calendar.proofs.cycle.counted.Goals as goal
 module _ (y : ℤ) (f : SFits w32 y) where
   wide : SFits w64 y
   wide = sfits_widen tt f
+
   sum : SFits w64 (y +ℤ pos 2147484000)
   sum = fits_of w64 (y +ℤ pos 2147484000) (omega (arith, add_pn y (pos 2147484000), of_fits w32 y f))
+
   up : N (y +ℤ pos 2147484000) ≤ P (y +ℤ pos 2147484000)
   up = omega (arith, add_pn y (pos 2147484000), of_fits w32 y f)
+
   natural : T (non_neg (y +ℤ pos 2147484000))
   natural = nonneg_of (y +ℤ pos 2147484000) up
+
   same : pos (nat_abs (y +ℤ pos 2147484000)) ≡ y +ℤ pos 2147484000
   same = pos-nat_abs (y +ℤ pos 2147484000) natural
+
   small : nat_abs (y +ℤ pos 2147484000) < 4294967648
   small = omega (arith, abs_up (y +ℤ pos 2147484000) up, add_pn y (pos 2147484000), of_fits w32 y f)
 

@@ -1,5 +1,4 @@
 -- `calendar::cycle::days_before` meets its contract, by the formula for the days before a month. Assumes nothing.
-use borrow.Author.Rules.{rules}
 use mathlib.Core.Bool.{true, false}
 use native.Mathlib.Omega.{arith}
 use borrow.Author.Tests.{le-leb, lt-leb}

@@ -1,5 +1,4 @@
 -- `calendar::cycle::year_of_cycle` meets its contract, by what the lent table holds. Assumes nothing.
-use borrow.Author.Rules.{rules}
 use native.Mathlib.Omega.{arith}
 use mathlib.Core.Path.{◌≡◌}
 use Prim.Native.Nat.{◌+◌}

@@ -1,5 +1,4 @@
 -- `component::split::bad_unit` meets its contract: the amount piece ends with the amount, or goes on. Assumes nothing.
-use borrow.Author.Rules.{rules}
 use Rattle.component.proofs.Faults.{told_out, told_in}
 use Rattle.component.proofs.split.bad_unit.Goals as goal
 

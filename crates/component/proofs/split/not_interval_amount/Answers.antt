@@ -1,5 +1,4 @@
 -- `component::split::not_interval_amount` meets its contract, test by test. Assumes nothing.
-use borrow.Author.Rules.{rules}
 use borrow.Author.Tests.{eq-eqb, ne_eqb}
 use native.Mathlib.Omega.{arith}
 use Rattle.text.proofs.DigitLaws.{is_digit_lem, no_digit}

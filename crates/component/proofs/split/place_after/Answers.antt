@@ -1,5 +1,4 @@
 -- `component::split::place_after` meets its contract, case by case. Assumes nothing.
-use borrow.Author.Rules.{rules}
 use Rattle.component.specs.Read.{place_after}
 use Rattle.component.proofs.split.place_after.Goals as goal
 

@@ -1,5 +1,4 @@
 -- `component::split::split_interval_component` meets its contract: an amount and what follows it, or no amount. Assumes nothing.
-use borrow.Author.Rules.{rules}
 use mathlib.Core.Path.{◌∙◌}
 use native.Mathlib.Omega.{arith}
 use lib.ListN.{drop}

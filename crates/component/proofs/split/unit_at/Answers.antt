@@ -1,5 +1,4 @@
 -- `component::split::unit_at` meets its contract, by the laws of what follows an amount. Assumes nothing.
-use borrow.Author.Rules.{rules}
 use mathlib.Core.Path.{refl}
 use Prim.Native.Nat.{◌+◌}
 use Rattle.unit.specs.Read.{word_is}

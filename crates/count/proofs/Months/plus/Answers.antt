@@ -1,5 +1,4 @@
 -- `count::Months::plus` meets its contract: a sum, where it fits. Assumes nothing.
-use borrow.Author.Rules.{rules}
 use mathlib.Core.Path.{◌∙◌}
 use mir.Syntax.{w32}
 use mir.Val.{SFits}

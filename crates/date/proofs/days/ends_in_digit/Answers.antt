@@ -5,7 +5,6 @@ use mathlib.Core.List.{List, [], ◌∷◌}
 use Prim.Native.Nat.{ℕ, ◌-◌, ◌<◌}
 use native.Mathlib.Omega.{arith}
 use lib.ListN.{length, get_or}
-use borrow.Author.Rules.{rules}
 use Rattle.text.specs.Digits.{is_digit}
 use Rattle.text.proofs.TwoDigits.{digit_below}
 use Rattle.date.proofs.days.ends_in_digit.Goals as goal

@@ -1,5 +1,4 @@
 -- `date::days::form_day` meets its contract, by the sign. Assumes nothing.
-use borrow.Author.Rules.{rules}
 use Rattle.date.proofs.days.form_day.Goals as goal
 
 pub returns-then-sign : goal.returns-then-sign

@@ -1,7 +1,6 @@
 -- `date::days::of_day` meets its contract: a text that ends in a digit is UTF-8, and any other is looked at. Assumes nothing.
 use mathlib.Core.Path.{sym, ◌∙◌}
 use mir.Facts.{to_z-of_z}
-use borrow.Author.Rules.{rules}
 use Rattle.date.proofs.Agreement.{read_utf8}
 use Rattle.date.proofs.Outcomes.{is_utf8, no_utf8}
 use Rattle.date.proofs.days.of_day.Goals as goal

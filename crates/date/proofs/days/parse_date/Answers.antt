@@ -1,7 +1,6 @@
 -- `date::days::parse_date` meets its contract, by the laws of the forms. Assumes nothing.
 use mathlib.Core.Path.{◌≡◌, sym, ap, ◌∙◌}
 use lib.ListN.{get_or}
-use borrow.Author.Rules.{rules}
 use Rattle.date.specs.Answer.{is_sign, on_day}
 use Rattle.date.proofs.Outcomes.{date_form, no_date_form}
 use Rattle.date.proofs.days.parse_date.Goals as goal

@@ -2,7 +2,6 @@
 use mathlib.Core.Path.{sym, ap, ◌∙◌}
 use mir.Syntax.{w64}
 use mir.Facts.{to_z-of_z}
-use borrow.Author.Rules.{rules}
 use Rattle.timestamp.specs.Read.{moment_is}
 use Rattle.date.proofs.Outcomes.{its_day}
 use Rattle.date.proofs.days.stamp_day.Goals as goal

@@ -1,7 +1,6 @@
 -- `date_column::Date64Type::parse_with` meets its contract, by the length of the text. Assumes nothing.
 use lib.ListN.{length}
 use borrow.Author.Tests.{le-leb, lt-leb}
-use borrow.Author.Rules.{rules}
 use Rattle.date_column.proofs.Date64Type.parse_with.Goals as goal
 
 pub returns-then-s-le10 : goal.returns-then-s-le10

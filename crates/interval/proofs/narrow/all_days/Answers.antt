@@ -1,5 +1,4 @@
 -- `interval::narrow::all_days` meets its contract, by the laws of months times 30. Assumes nothing.
-use borrow.Author.Rules.{rules}
 use mathlib.Core.Path.{sym, ap, ◌∙◌}
 use mir.Syntax.{w32}
 use mir.Val.{SFits}

@@ -1,5 +1,4 @@
 -- `interval::narrow::all_millis` meets its contract, by the laws of a quotient and its rest. Assumes nothing.
-use borrow.Author.Rules.{rules}
 use mathlib.Core.Path.{◌∙◌}
 use native.Mathlib.Omega.{arith}
 use mir.Syntax.{w64}

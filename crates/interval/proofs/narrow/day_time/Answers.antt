@@ -1,5 +1,4 @@
 -- `interval::narrow::day_time` meets its contract, case by case. Assumes nothing.
-use borrow.Author.Rules.{rules}
 use Rattle.interval.specs.Helpers.{day_time_if}
 use Rattle.interval.proofs.narrow.day_time.Goals as goal
 

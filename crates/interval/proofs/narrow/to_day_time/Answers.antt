@@ -1,5 +1,4 @@
 -- `interval::narrow::to_day_time` meets its contract: days and milliseconds, where both fit. Assumes nothing.
-use borrow.Author.Rules.{rules}
 use mathlib.Core.Path.{◌∙◌}
 use Rattle.interval.proofs.Narrower.{both}
 use Rattle.interval.proofs.narrow.to_day_time.Goals as goal

@@ -1,6 +1,5 @@
 -- `number::checked::mul_checked_i32` meets its contract: at 64 bits the product is exact, by the laws of a larger width. Assumes nothing.
 use mathlib.Core.Path.{ap, ◌∙◌}
-use borrow.Author.Rules.{rules}
 use lib.IntN.{◌*ℤ◌}
 use lib.Dec.{lit<}
 use mir.Syntax.{w64}

@@ -1,10 +1,8 @@
 use mathlib.Core.Path.{◌∙◌}
-use Prim.Native.Nat.{◌-◌, ◌≤◌}
 use native.Mathlib.Omega.{arith}
-use lib.ListN.{length}
 use borrow.Author.Rules.{rules}
 use mir.Syntax.{w64}
-use Rattle.number.proofs.Reading.{GoesOn, no_digits, no_digit_here, too_long, one_more, whole}
+use Rattle.number.proofs.Reading.{no_digits, no_digit_here, too_long, one_more, whole}
 use Rattle.number.proofs.parse.digits_from.Goals as goal
 
 pub returns-then-s-at : goal.returns-then-s-at

@@ -1,7 +1,6 @@
 -- `number::parse::parse_i64` meets its contract, by the laws of a text by its first byte. Assumes nothing.
 use mathlib.Core.Path.{◌∙◌}
 use mathlib.Core.Bool.{true}
-use borrow.Author.Rules.{rules}
 use Rattle.number.proofs.Reading.{no_text, after_plus, after_minus, no_sign}
 use Rattle.number.proofs.parse.parse_i64.Goals as goal
 

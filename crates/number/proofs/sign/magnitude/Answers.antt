@@ -1,5 +1,4 @@
 -- `number::sign::magnitude` meets its contract, by the laws of a size at any width. Assumes nothing.
-use borrow.Author.Rules.{rules}
 use Rattle.number.proofs.Sizes.{cast_up, flip_fits, flip_cast, flip_size, size_fits}
 use Rattle.number.proofs.sign.magnitude.Goals as goal
 

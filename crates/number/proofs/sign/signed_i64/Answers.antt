@@ -1,5 +1,4 @@
 -- `number::sign::signed_i64` meets its contract, by the laws of a sign and a size at any width. Assumes nothing.
-use borrow.Author.Rules.{rules}
 use mir.Syntax.{w64}
 use Rattle.number.proofs.Sizes.{down_fits, down, down_over, up, up_over}
 use Rattle.number.proofs.sign.signed_i64.Goals as goal

@@ -1,6 +1,5 @@
 -- `place::IntervalRefusal::bad_piece` meets its contract: 8 with its place, or 1. Assumes nothing.
 use mathlib.Core.Path.{refl}
-use borrow.Author.Rules.{rules}
 use Rattle.place.proofs.IntervalRefusal.bad_piece.Goals as goal
 
 pub returns-then-is_utf8 : goal.returns-then-is_utf8

@@ -1,5 +1,4 @@
 -- `place::IntervalRefusal::place` meets its contract, case by case. Assumes nothing.
-use borrow.Author.Rules.{rules}
 use Rattle.place.proofs.IntervalRefusal.place.Goals as goal
 
 pub returns-in-Interval : goal.returns-in-Interval

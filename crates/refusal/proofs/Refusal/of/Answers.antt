@@ -1,6 +1,5 @@
 -- `refusal::Refusal::of` meets its contract. Assumes nothing.
 use mathlib.Core.Path.{sym, ◌∙◌}
-use borrow.Author.Rules.{rules}
 use Rattle.refusal.proofs.Refusal.of.Goals as goal
 
 pub returns-then-is_utf8 : goal.returns-then-is_utf8

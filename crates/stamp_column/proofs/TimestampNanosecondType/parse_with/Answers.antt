@@ -3,7 +3,6 @@ use mathlib.Core.Path.{sym, ◌∙◌}
 use Rattle.stamp_text.specs.Answer.{stamp_nanos}
 use Rattle.refusal.specs.Attempts.{retried}
 use Rattle.refusal.proofs.Outcomes.{whole}
-use borrow.Author.Rules.{rules}
 use Rattle.stamp_column.proofs.TimestampNanosecondType.parse_with.Goals as goal
 
 pub returns : goal.returns

@@ -1,7 +1,6 @@
 -- `stamp_column::TimestampSecondType::parse_with` meets its contract: the nanoseconds, divided. Assumes nothing.
 use mathlib.Core.Path.{ap, ◌∙◌}
 use Rattle.refusal.specs.Attempts.{divided}
-use borrow.Author.Rules.{rules}
 use Rattle.stamp_column.proofs.TimestampSecondType.parse_with.Goals as goal
 
 pub returns : goal.returns

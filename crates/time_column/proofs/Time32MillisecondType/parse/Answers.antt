@@ -4,7 +4,6 @@ use lib.Dec.{lit<, lit≤}
 use Rattle.refusal.specs.Outcome.{outcome64}
 use Rattle.time_column.specs.Answer.{time_column}
 use Rattle.time_column.proofs.Widths.{told_fits}
-use borrow.Author.Rules.{rules}
 use Rattle.time_column.proofs.Time32MillisecondType.parse.Goals as goal
 
 pub narrowed-requires : goal.narrowed-requires

@@ -1,6 +1,5 @@
 -- `time_column::Time64MicrosecondType::parse` meets its contract: what is found, in microseconds. Assumes nothing.
 use mathlib.Core.Path.{◌∙◌}
-use borrow.Author.Rules.{rules}
 use Rattle.time_column.proofs.Time64MicrosecondType.parse.Goals as goal
 
 pub returns : goal.returns

@@ -1,6 +1,5 @@
 -- `time_column::Time64NanosecondType::parse` meets its contract: what is found, in nanoseconds. Assumes nothing.
 use mathlib.Core.Path.{◌∙◌}
-use borrow.Author.Rules.{rules}
 use Rattle.time_column.proofs.Time64NanosecondType.parse.Goals as goal
 
 pub returns : goal.returns

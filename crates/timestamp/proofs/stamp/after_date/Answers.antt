@@ -1,7 +1,6 @@
 -- `timestamp::stamp::after_date` meets its contract, by the laws of what follows a date. Assumes nothing.
 use mathlib.Core.Path.{◌≡◌, sym, ap, ◌∙◌}
 use mir.Facts.{to_z-of_z}
-use borrow.Author.Rules.{rules}
 use Rattle.parser.specs.declared.TimeAndEnd.{TimeAndEnd}
 use Rattle.stamp_text.specs.Answer.{on_time, after_date}
 use Rattle.parser.specs.Read.{ends_at}

@@ -1,7 +1,6 @@
 -- `timestamp::stamp::at_end` meets its contract, by what `is_ending` ensures. Assumes nothing.
 use mathlib.Core.Path.{sym, ◌∙◌}
 use mir.Facts.{to_z-of_z}
-use borrow.Author.Rules.{rules}
 use Rattle.timestamp.proofs.stamp.at_end.Goals as goal
 
 pub returns-then-is_ending : goal.returns-then-is_ending

@@ -1,5 +1,4 @@
 -- `timestamp::stamp::is_ending` meets its contract, by the laws of the end of a stamp. Assumes nothing.
-use borrow.Author.Rules.{rules}
 use Rattle.timestamp.proofs.Endings.{nothing_left, one_left, more_left}
 use Rattle.timestamp.proofs.stamp.is_ending.Goals as goal
 

@@ -1,6 +1,5 @@
 -- `timestamp::stamp::string_to_datetime` meets its contract: a text that is read is UTF-8, and a refusal looks at it. Assumes nothing.
 use mathlib.Core.Path.{◌≡◌, sym, ap, ◌∙◌}
-use borrow.Author.Rules.{rules}
 use Rattle.refusal.specs.Outcome.{accepted}
 use Rattle.refusal.proofs.Outcomes.{refused_in}
 use Rattle.stamp_text.specs.Answer.{plain_moment}

@@ -1,6 +1,5 @@
 -- `timestamp::stamp::string_to_timestamp_nanos_with` meets its contract: a moment goes on to its nanoseconds. Assumes nothing.
 use mathlib.Core.Path.{sym, ap, ◌∙◌}
-use borrow.Author.Rules.{rules}
 use Rattle.timestamp.specs.Read.{moment_is}
 use Rattle.timestamp.proofs.Outcomes.{onward}
 use Rattle.timestamp.proofs.stamp.string_to_timestamp_nanos_with.Goals as goal

@@ -1,5 +1,4 @@
 -- `total::Interval::add` meets its contract: the contribution fits and goes to the totals, or it does not. Assumes nothing.
-use borrow.Author.Rules.{rules}
 use mathlib.Core.Path.{sym, ap, ◌∙◌}
 use Rattle.amount.specs.Grammar.{precision}
 use Rattle.amount.specs.Read.{value_of}

@@ -1,5 +1,4 @@
 -- `total::Interval::plus` meets its contract: three sums, each where it fits. Assumes nothing.
-use borrow.Author.Rules.{rules}
 use mathlib.Core.Path.{◌∙◌}
 use lib.IntN.{◌+ℤ◌}
 use Rattle.rule.specs.Contribution.{plus}

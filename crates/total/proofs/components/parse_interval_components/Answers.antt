@@ -1,16 +1,14 @@
 use mathlib.Core.Path.{◌≡◌, refl, ◌∙◌}
 use mathlib.Core.Bool.{true, false}
-use Prim.Native.Nat.{◌-◌, ◌≤◌}
 use native.Mathlib.Omega.{arith}
-use lib.ListN.{length, get_or, length-set}
+use lib.ListN.{get_or, length-set}
 use mir.Syntax.{w64}
 use mir.Val.{SFits}
-use borrow.Author.Rules.{rules}
 use Rattle.unit.specs.Read.{unit_read}
 use Rattle.amount.specs.Grammar.{precision}
 use Rattle.component.specs.Read.{LastIs, MoreIs, piece_is, place_after, taken_is}
 use Rattle.total.specs.Helpers.{totals_of, unfit_of, repeat_of, came}
-use Rattle.total.proofs.Folding.{Goes, Places, came_or, rank_below, proper, starts, starts_place, bad_answer, bad_place, last_answer, last_utf8, last_place, more_goes, more_place}
+use Rattle.total.proofs.Folding.{came_or, rank_below, proper, starts, starts_place, bad_answer, bad_place, last_answer, last_utf8, last_place, more_goes, more_place}
 use Rattle.total.proofs.components.parse_interval_components.Goals as goal
 
 pub loop-place-init : goal.loop-place-init

@@ -1,6 +1,5 @@
 -- `total::components::settled` meets its contract, case by case. Assumes nothing.
 use mathlib.Core.Path.{refl}
-use borrow.Author.Rules.{rules}
 use Rattle.rule.specs.Answer.{on_totals}
 use Rattle.place.specs.Where.{or_later}
 use Rattle.total.specs.Helpers.{came}

@@ -1,5 +1,4 @@
 -- `total::contributions::contribution` meets its contract: each unit is a row of document 01's table. Assumes nothing.
-use borrow.Author.Rules.{rules}
 use Rattle.rule.specs.Contribution.{contribution}
 use Rattle.total.proofs.contributions.contribution.Goals as goal
 

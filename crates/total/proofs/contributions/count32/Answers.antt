@@ -1,5 +1,4 @@
 -- `total::contributions::count32` meets its contract, by the laws of a count of 32 bits. Assumes nothing.
-use borrow.Author.Rules.{rules}
 use mathlib.Core.Path.{ap, ◌∙◌}
 use Rattle.number.specs.Widths.{fit}
 use Rattle.total.proofs.Adding.{count_below, count_above, count_product, count_sum, count_is}

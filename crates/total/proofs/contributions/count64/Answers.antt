@@ -1,5 +1,4 @@
 -- `total::contributions::count64` meets its contract, by the laws of a count of 64 bits. Assumes nothing.
-use borrow.Author.Rules.{rules}
 use mathlib.Core.Path.{ap, ◌∙◌}
 use Rattle.number.specs.Widths.{fit}
 use Rattle.total.proofs.Adding.{far_above, limit_flips, far_below, near_product, near_is}

@@ -1,5 +1,4 @@
 -- `total::contributions::counts` meets its contract, case by case. Assumes nothing.
-use borrow.Author.Rules.{rules}
 use Rattle.total.specs.Helpers.{together}
 use Rattle.total.proofs.contributions.counts.Goals as goal
 
@@ -18,7 +17,7 @@ returns-in_default-nanos c = rw (c.in-Some.is, c.in-Some-days.is, c.in_default-n
 pub returns : goal.returns
 unfolding together
 returns c = rw (
-      c.in-Some.is,
-      c.in-Some-days.is,
-      c.in-Some-nanos.is,
-    )
+  c.in-Some.is,
+  c.in-Some-days.is,
+  c.in-Some-nanos.is,
+)

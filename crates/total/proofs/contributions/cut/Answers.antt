@@ -1,5 +1,4 @@
 -- `total::contributions::cut` meets its contract, by the laws of a part of a fraction. Assumes nothing.
-use borrow.Author.Rules.{rules}
 use Rattle.total.proofs.Adding.{cut_mul, cut_div, cut_is}
 use Rattle.total.proofs.contributions.cut.Goals as goal
 

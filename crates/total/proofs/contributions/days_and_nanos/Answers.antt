@@ -1,5 +1,4 @@
 -- `total::contributions::days_and_nanos` meets its contract, by the laws of an amount's whole part and its fraction. Assumes nothing.
-use borrow.Author.Rules.{rules}
 use mathlib.Core.Path.{refl, ap, ◌∙◌}
 use Prim.Native.Nat.{◌*◌}
 use native.Mathlib.Omega.{arith}

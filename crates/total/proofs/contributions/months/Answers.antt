@@ -1,5 +1,4 @@
 -- `total::contributions::months` meets its contract, by the laws of an amount times a factor. Assumes nothing.
-use borrow.Author.Rules.{rules}
 use mathlib.Core.Path.{refl, ap, ◌∙◌}
 use lib.IntN.{pos}
 use mir.Syntax.{w64}

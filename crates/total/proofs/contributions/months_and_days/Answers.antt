@@ -1,5 +1,4 @@
 -- `total::contributions::months_and_days` meets its contract, by the laws of an amount's whole part and its fraction. Assumes nothing.
-use borrow.Author.Rules.{rules}
 use mathlib.Core.Path.{refl, ap, ◌∙◌}
 use native.Mathlib.Omega.{arith}
 use lib.IntN.{pos}

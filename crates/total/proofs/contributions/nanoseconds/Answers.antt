@@ -1,5 +1,4 @@
 -- `total::contributions::nanoseconds` meets its contract, by the law of an amount that is not cut. Assumes nothing.
-use borrow.Author.Rules.{rules}
 use mathlib.Core.Path.{refl, ◌∙◌}
 use lib.IntN.{pos}
 use mir.Syntax.{w64}

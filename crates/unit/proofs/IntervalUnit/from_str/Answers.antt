@@ -1,5 +1,4 @@
 -- `unit::IntervalUnit::from_str` meets its contract: a word is its letters, or goes on behind them and is no unit. Assumes nothing.
-use borrow.Author.Rules.{rules}
 use mathlib.Core.Path.{◌∙◌}
 use Rattle.unit.proofs.Packing.{word_letters, word_longer}
 use Rattle.unit.proofs.IntervalUnit.from_str.Goals as goal

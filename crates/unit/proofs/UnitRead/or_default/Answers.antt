@@ -1,5 +1,4 @@
 -- `unit::UnitRead::or_default` meets its contract. Assumes nothing.
-use borrow.Author.Rules.{rules}
 use Rattle.unit.specs.Units.{or_else}
 use Rattle.unit.proofs.UnitRead.or_default.Goals as goal
 

@@ -1,5 +1,4 @@
 -- `unit::letters::letter_at` meets its contract, by the laws of a letter in either case. Assumes nothing.
-use borrow.Author.Rules.{rules}
 use Prim.Native.Nat.{◌+◌}
 use native.Mathlib.Omega.{arith}
 use lib.ListN.{get_or}

@@ -1,8 +1,4 @@
-use Prim.Native.Nat.{◌-◌, ◌≤◌, ◌<◌}
 use native.Mathlib.Omega.{arith}
-use lib.ListN.{length, take, drop}
-use borrow.Author.Rules.{rules}
-use Rattle.unit.specs.Keys.{Packed}
 use Rattle.unit.proofs.Packing.{nothing_packed, ends_here, full_here, letter_more}
 use Rattle.unit.proofs.letters.letters_at.Goals as goal
 

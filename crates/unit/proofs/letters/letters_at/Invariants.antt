@@ -1,11 +1,8 @@
 -- `unit::letters::letters_at` meets its contract, by the laws of one letter more. The loop's invariant: the letters passed are packed.
 -- The measure is what is left of the text. Assumes nothing.
 use Prim.Native.Nat.{◌-◌, ◌≤◌, ◌<◌}
-use native.Mathlib.Omega.{arith}
 use lib.ListN.{length, take, drop}
-use borrow.Author.Rules.{rules}
 use Rattle.unit.specs.Keys.{Packed}
-use Rattle.unit.proofs.Packing.{nothing_packed, ends_here, full_here, letter_more}
 use Rattle.unit.proofs.letters.letters_at.Given as goal
 
 abbrev pub invariant-loop-i : goal.invariant-loop-i

@@ -1,5 +1,4 @@
 -- `unit::words::white_len` meets its contract: a space is white space of one byte. Assumes nothing.
-use borrow.Author.Rules.{rules}
 use Rattle.white.proofs.Characters.{space_here}
 use Rattle.unit.proofs.words.white_len.Goals as goal
 

@@ -1,5 +1,4 @@
 -- `unit::words::word_at` meets its contract, by the laws of the letters from a place on. Assumes nothing.
-use borrow.Author.Rules.{rules}
 use mathlib.Core.Path.{refl, sym, ap, ◌∙◌}
 use Rattle.unit.specs.Read.{unit_read, word_is}
 use Rattle.unit.proofs.WordLaws.{past_none, goes_on, no_unit, last_unit, more_unit}

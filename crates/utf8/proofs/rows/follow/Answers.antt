@@ -1,6 +1,5 @@
 -- `utf8::rows::follow` meets its contract, by the rows of the table. Assumes nothing.
 use mathlib.Core.Path.{sym}
-use borrow.Author.Rules.{rules}
 use native.Mathlib.Omega.{arith}
 use Rattle.utf8.proofs.Utf8Rows.{row_00, row_80, row_c2}
 use Rattle.utf8.proofs.rows.follow.Goals as goal

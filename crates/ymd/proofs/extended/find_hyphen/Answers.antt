@@ -1,9 +1,4 @@
-use mathlib.Core.Path.{◌≡◌}
-use Prim.Native.Nat.{◌+◌, ◌-◌, ◌≤◌}
 use native.Mathlib.Omega.{arith}
-use lib.ListN.{length, drop}
-use borrow.Author.Rules.{rules}
-use Rattle.ymd.specs.Forms.{to_hyphen}
 use Rattle.ymd.proofs.Hyphens.{hyphen_here, hyphen_on, no_hyphen}
 use Rattle.ymd.proofs.extended.find_hyphen.Goals as goal
 

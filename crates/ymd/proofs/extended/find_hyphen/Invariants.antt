@@ -1,11 +1,8 @@
 -- `ymd::extended::find_hyphen` meets its contract. The loop's invariant: what is left reaches to the same hyphen. Assumes nothing.
 use mathlib.Core.Path.{◌≡◌}
 use Prim.Native.Nat.{◌+◌, ◌-◌, ◌≤◌}
-use native.Mathlib.Omega.{arith}
 use lib.ListN.{length, drop}
-use borrow.Author.Rules.{rules}
 use Rattle.ymd.specs.Forms.{to_hyphen}
-use Rattle.ymd.proofs.Hyphens.{hyphen_here, hyphen_on, no_hyphen}
 use Rattle.ymd.proofs.extended.find_hyphen.Given as goal
 
 abbrev pub invariant-loop-i : goal.invariant-loop-i

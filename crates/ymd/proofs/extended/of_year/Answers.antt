@@ -1,6 +1,5 @@
 -- `ymd::extended::of_year` meets its contract. Assumes nothing.
 use mir.Facts.{to_z-of_z}
-use borrow.Author.Rules.{rules}
 use Rattle.ymd.proofs.extended.of_year.Goals as goal
 
 pub returns : goal.returns

@@ -1,6 +1,5 @@
 -- `ymd::short::hyphen_day` meets its contract, by what stands before the day. Assumes nothing.
 use mathlib.Core.Path.{subst, ◌∙◌}
-use borrow.Author.Rules.{rules}
 use Rattle.ymd.specs.Helpers.{before_is}
 use Rattle.ymd.specs.declared.short.BeforeDay.TheVariants.{At as DayAt}
 use Rattle.ymd.proofs.short.hyphen_day.Goals as goal

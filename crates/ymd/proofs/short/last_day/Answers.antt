@@ -2,7 +2,6 @@
 use mathlib.Core.Path.{ap, ◌∙◌}
 use Prim.Native.Nat.{◌+◌, ◌*◌}
 use lib.IntN.{pos}
-use borrow.Author.Rules.{rules}
 use Rattle.text.specs.Digits.{digit_of}
 use Rattle.ymd.proofs.Shapes.{two_last, one_last, no_last}
 use Rattle.ymd.proofs.short.last_day.Goals as goal

@@ -1,8 +1,4 @@
-use mathlib.Core.Path.{◌≡◌, sym, ◌∙◌}
-use Prim.Native.Nat.{◌-◌}
-use lib.ListN.{length, drop}
-use borrow.Author.Rules.{rules}
-use Rattle.clock.specs.Grammar.{no_digits}
+use mathlib.Core.Path.{sym, ◌∙◌}
 use Rattle.ymd.proofs.Shapes.{digit_here, no_digit_here, nothing_left}
 use Rattle.ymd.proofs.short.no_digits.Goals as goal
 

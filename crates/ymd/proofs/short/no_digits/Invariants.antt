@@ -1,10 +1,8 @@
 -- `ymd::short::no_digits` meets its contract. The loop's invariant: no digit was met yet. Assumes nothing.
-use mathlib.Core.Path.{◌≡◌, sym, ◌∙◌}
+use mathlib.Core.Path.{◌≡◌}
 use Prim.Native.Nat.{◌-◌}
 use lib.ListN.{length, drop}
-use borrow.Author.Rules.{rules}
 use Rattle.clock.specs.Grammar.{no_digits}
-use Rattle.ymd.proofs.Shapes.{digit_here, no_digit_here, nothing_left}
 use Rattle.ymd.proofs.short.no_digits.Given as goal
 
 abbrev pub invariant-loop-i : goal.invariant-loop-i

@@ -1,5 +1,4 @@
 -- `total::components::Repeated::or` meets its contract, case by case. Assumes nothing.
-use borrow.Author.Rules.{rules}
 use Rattle.place.specs.Where.{or_later}
 use Rattle.total.proofs.components.Repeated.or.Goals as goal
 

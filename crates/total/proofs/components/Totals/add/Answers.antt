@@ -1,7 +1,6 @@
 -- `total::components::Totals::add` meets its contract: the totals with the component, or where they first did not fit. Assumes nothing.
 use mathlib.Core.Path.{refl, sym, ap, ◌∙◌}
 use mir.Facts.{to_z-of_z}
-use borrow.Author.Rules.{rules}
 use Rattle.amount.specs.Grammar.{precision, valued}
 use Rattle.rule.specs.Contribution.{contribution}
 use Rattle.place.specs.Where.{or_later}
