@@ -38,7 +38,7 @@ use Rattle.stamp_text.proofs.Refusals as StampRefusals
 use Rattle.column.specs.Columns.{column}
 use Rattle.column.specs.declared.Column.{Column}
 use Rattle.column.specs.declared.Column.TheVariants.{TimestampNanosecond, TimestampMicrosecond, TimestampMillisecond, TimestampSecond, Time64Nanosecond, Time64Microsecond, Time32Millisecond, Time32Second, Date32, Date64}
-use Rattle.column.specs.Meaning.{TimestampColumn, nanoseconds, microseconds, milliseconds, seconds, TimeColumn, nanoseconds_64, microseconds_64, milliseconds_32, seconds_32, ReaderReads, of_stamp, of_time, of_date, up_to_ten, beyond_ten, ReaderRefuses, no_stamp, no_time, no_date, no_date_up_to_ten, no_stamp_beyond_ten, ReadsGiven, by_reader, as_integer_lem, Reads, as_given, once_trimmed, Refuses, never_trimmed, trimmed_too}
+use Rattle.column.specs.Meaning.{TimestampColumn, nanoseconds, microseconds, milliseconds, seconds, TimeColumn, nanoseconds_64, microseconds_64, milliseconds_32, seconds_32, ReaderReads, of_stamp, of_time, of_date, up_to_ten, beyond_ten, ReaderRefuses, no_stamp, no_time, no_date, no_date_up_to_ten, no_stamp_beyond_ten, ReadsGiven, by_reader, integer_given, Reads, as_given, once_trimmed, Refuses, never_trimmed, trimmed_too}
 
 -- ---- the four kinds of columns
 
@@ -204,7 +204,7 @@ integer_is bits (some x) z e =
 module _ (t : List ℕ) where
   given_into : {c : Column} {z : ℤ} → ReadsGiven c t z → given c t ≡ accepted z
   given_into {c} {z} (by_reader r) = reader_first t (kind c) z ((reader_reads t c z).0 r)
-  given_into {c} (as_integer_lem {k = k} {bits = bits} {z = z} s h n f) = time_given s t ∙ rw (time_reader s t) (by (time_nanos t) refl)
+  given_into {c} (integer_given {k = k} {bits = bits} {z = z} s h n f) = time_given s t ∙ rw (time_reader s t) (by (time_nanos t) refl)
     where
       by : (o : Outcome ℤ) → time_nanos t ≡ o → or_else (divided k o) (as_integer bits t) ≡ accepted z
       by (accepted y) p = absurd (h y ((Times.agrees t y).1 p))
@@ -218,7 +218,7 @@ module _ (t : List ℕ) where
       (λ n p q.
       let i = integer_is bits (numeral true t) z q in
       let r = still_refused k (time_nanos t) n (sym (time_reader s t) ∙ p) in
-      as_integer_lem s (λ y d. clash (sym r ∙ (Times.agrees t y).0 d)) ((Numerals.agrees true t z).1 i.0) i.1)
+      integer_given s (λ y d. clash (sym r ∙ (Times.agrees t y).0 d)) ((Numerals.agrees true t z).1 i.0) i.1)
   given_back date_32 z e = by_reader ((reader_reads t Date32 z).1 e)
   given_back date_64 z e = by_reader ((reader_reads t Date64 z).1 e)
 

@@ -53,7 +53,7 @@ pub data ReaderRefuses : Column → List ℕ → ℕ → Type 0 where
 -- optional sign, taken undivided, with no range but its width
 pub data ReadsGiven : Column → List ℕ → ℤ → Type 0 where
   by_reader : {c : Column} {t : List ℕ} {z : ℤ} → ReaderReads c t z → ReadsGiven c t z
-  as_integer_lem : {c : Column} {k bits : ℕ} {t : List ℕ} {z : ℤ} → TimeColumn c k bits → ((y : ℤ) → TimeReads t y → ⊥) → Numeral true t z
+  integer_given : {c : Column} {k bits : ℕ} {t : List ℕ} {z : ℤ} → TimeColumn c k bits → ((y : ℤ) → TimeReads t y → ⊥) → Numeral true t z
       → in_type true bits z ≡ true → ReadsGiven c t z
 
 -- "all columns but Date64 read the text as given, then trimmed"

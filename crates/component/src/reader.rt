@@ -48,8 +48,7 @@ impl<'a> Reader<'a> {
     }
 }
 
-// The component at a place of a text and where a reader goes from there, by one that is made here: a caller holds none, so its own proof
-// is no walk of MIR.
+// The component at a place of a text and where a reader goes from there, by one that is made here, so that a caller holds none.
 pub fn component_at(text: &[u8], at: usize) -> Taken
     requires { at ≤ length text.now }
     ensures { taken_is precision text.now at result }

@@ -134,11 +134,7 @@ pub fn cullpethi_parse_date32(text: &[u8], days: &mut i32) -> u8
 }
 
 // An interval in months; years are the default unit.
-pub fn cullpethi_parse_interval_year_month(
-    text: &[u8],
-    months: &mut i32,
-    place: &mut usize,
-) -> u8
+pub fn cullpethi_parse_interval_year_month(text: &[u8], months: &mut i32, place: &mut usize) -> u8
     ensures { Told (year_month precision text.now) result months.old months.new × ToldPlace (place_of precision Year text.now) place.old place.new }
 {
     put_months(parse_interval_year_month(text), months, place)

@@ -174,7 +174,14 @@ pub extern "C" fn cullpethi_parse_interval_month_day_nano_config(
 ) -> u8
     ensures { Told (in_unit (unit_numbered default_unit) text.now) result (counts months.old days.old nanos.old) (counts months.new days.new nanos.new) × ToldPlace (place_in_unit (unit_numbered default_unit) text.now) place.old place.new }
 {
-    cullpethi::cullpethi_parse_interval_month_day_nano_config(text, default_unit, months, days, nanos, place)
+    cullpethi::cullpethi_parse_interval_month_day_nano_config(
+        text,
+        default_unit,
+        months,
+        days,
+        nanos,
+        place,
+    )
 }
 
 // A whole column by its number, 0 TimestampNanosecond to 9 Date64: each text by the column's reader, its value into its cell, or the first

@@ -21,7 +21,7 @@ use Rattle.unit.proofs.Spelling.{no_more, Ends, at_end, at_white, word_run, word
 use Rattle.unit.proofs.WordLaws.{Halts, word_is}
 use Rattle.component.specs.Fault.{in_amount, all_in_amount, piece_len}
 use Rattle.component.proofs.Faults.{in_piece, piece_none, piece_inside, piece_ends}
-use Rattle.place.specs.Pieces.{Piece, piece, Unspaced, Words, last_word, word_then_lem, Pair, pair, Pairs, no_word, parted, two_words, one_word, Splits}
+use Rattle.place.specs.Pieces.{Piece, piece, Unspaced, Words, last_word, word_then_more, Pair, pair, Pairs, no_word, parted, two_words, one_word, Splits}
 use Rattle.place.specs.Where.{word_then, words_by, words, is_whole, parted_at, pairs_of, pairs_from}
 
 -- ---- the bytes of a character
@@ -144,7 +144,7 @@ go_on p t {l} g R =
     let x : List ℕ = drop n t in
     let k : ℕ = white_len x in
     let r : Words (p + (length (take n t) + length (take k x))) (drop k x) l = rw (length-take-le n t (word_is t).1, length-take-le k x g.inside, drop-drop k n t) R in
-    let S : Words p (take n t ++ (take k x ++ drop k x)) (piece p (take n t) ∷ l) = word_then_lem (unspaced t) g.is_white r in
+    let S : Words p (take n t ++ (take k x ++ drop k x)) (piece p (take n t) ∷ l) = word_then_more (unspaced t) g.is_white r in
     rw (take-append-drop k x, take-append-drop n t) at S
 
 -- what is computed are the words
@@ -161,7 +161,7 @@ words_complete zero R h = absurd (omega arith)
 words_complete (suc j) (last_word {p} {w} U) h =
     let n : word_len w ≡ length w = rw append-nil at (first_word w [] U at_end) in
     by_last j p w (omega arith) ∙ rw (n, take-length w)
-words_complete (suc j) (word_then_lem {p} {w} {s} {r} U W R) h =
+words_complete (suc j) (word_then_more {p} {w} {s} {r} U W R) h =
     let n = first_word w (s ++ r) U (at_white r W) in
     let a = length-append w (s ++ r) in
     let b = length-append s r in

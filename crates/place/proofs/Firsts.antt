@@ -21,7 +21,7 @@ use Rattle.rule.specs.Meaning.{Runs, Repeats}
 use Rattle.rule.proofs.Turns.{mark, unseen, again, again_twice}
 use Rattle.rule.proofs.Demand3.{Amounts, no_more, one_more, repeats, runs_totals, totals_runs}
 use Rattle.place.specs.Pieces.{Piece, Pair, pair, component_of, components}
-use Rattle.place.specs.Place.{UnitPiece, no_piece, a_unit, FirstBad, bad_amount, bad_unit_lem, later, FirstRepeat, repeats_at, FirstUnfit, unfit_at}
+use Rattle.place.specs.Place.{UnitPiece, no_piece, a_unit, FirstBad, bad_amount, bad_unit_piece, later, FirstRepeat, repeats_at, FirstUnfit, unfit_at}
 use Rattle.place.specs.Where.{or_later, bad_unit, first_bad, seen_with, none_seen, first_repeat, first_unfit}
 
 -- ---- the first bad piece
@@ -37,7 +37,7 @@ module _ (n : ℕ) where
   unfolding first_bad or_later bad_unit
   bad_computed (bad_amount {c} f) =
       rw (fails (is_amount n c.amount.bytes) (true_amount n c.amount.bytes) (f (amount_of n c.amount.bytes)))
-  bad_computed (bad_unit_lem {a} A e) = rw (amount_true n a.bytes A, e)
+  bad_computed (bad_unit_piece {a} A e) = rw (amount_true n a.bytes A, e)
   bad_computed (later {c} A U F) = rw (amount_true n c.amount.bytes A, good_unit U, bad_computed F)
 
   -- and what is computed is its place
@@ -60,7 +60,7 @@ module _ (n : ℕ) where
           (λ g.
           let f : some w.at ≡ some p = rw g at e in
           let q : w.at ≡ p = cc in
-          rw (← q) (bad_unit_lem (true_amount n a.bytes h) g))
+          rw (← q) (bad_unit_piece (true_amount n a.bytes h) g))
 
 -- ---- the first pair that a test tells, while a state is carried along
 

@@ -20,8 +20,8 @@ use Rattle.component.proofs.Agreement.{agrees, well_formed}
 use Rattle.rule.specs.Contribution.{Counts, zeros}
 use Rattle.rule.specs.Meaning.{Repeats, Means, totalled, not_utf8, undivided, repeated, unfit}
 use Rattle.rule.proofs.Demand3.{Amounts, amounts, answered}
-use Rattle.place.specs.Pieces.{Piece, Words, last_word, word_then_lem, Pair, Pairs, no_word, parted, two_words, one_word, Splits, components}
-use Rattle.place.specs.Place.{FirstBad, bad_amount, bad_unit_lem, later, repeats_at, unfit_at, Place, of_value, of_1, of_8, of_9, of_10}
+use Rattle.place.specs.Pieces.{Piece, Words, last_word, word_then_more, Pair, Pairs, no_word, parted, two_words, one_word, Splits, components}
+use Rattle.place.specs.Place.{FirstBad, bad_amount, bad_unit_piece, later, repeats_at, unfit_at, Place, of_value, of_1, of_8, of_9, of_10}
 use Rattle.place.specs.Where.{pairs_from, or_later, first_bad, first_repeat, none_seen, first_unfit, first_of, place}
 use Rattle.place.proofs.Cutting.{splits}
 use Rattle.place.proofs.Turning.{Next, on_bad, on_stop, on_go}
@@ -170,7 +170,7 @@ module _ (m : ℕ) where
   words_end : {p : ℕ} {t : List ℕ} {l : List Piece} → Words p t l → p + length t ≤ m → Ending l
   unfolding Ending
   words_end (last_word U) h = (h, tt)
-  words_end (word_then_lem {p} {w} {s} {r} U W R) h =
+  words_end (word_then_more {p} {w} {s} {r} U W R) h =
       let a = length-append w (s ++ r) in
       let b = length-append s r in
       (omega (arith, h, a), words_end R (omega (arith, h, a, b)))
@@ -197,7 +197,7 @@ module _ (m : ℕ) where
   bad_begins : {n : ℕ} {d : List Pair} {p : ℕ} → FirstBad n d p → PairsIn d → p ≤ m
   unfolding UnitIn PairsIn
   bad_begins (bad_amount f) I = I.0
-  bad_begins (bad_unit_lem A e) I = I.1
+  bad_begins (bad_unit_piece A e) I = I.1
   bad_begins (later A U F) I = bad_begins F I.2
 
   pair_begins : (front : List Pair) (c : Pair) (d : List Pair) → PairsIn (front ++ (c ∷ d)) → c.amount.at ≤ m

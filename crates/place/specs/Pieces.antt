@@ -23,7 +23,7 @@ Unspaced w = (a s b : List ℕ) → w ≡ a ++ (s ++ b) → White s → ⊥
 -- a text that begins at the place p, and its words: it is split at each white space character, so that there are empty words too
 pub data Words : ℕ → List ℕ → List Piece → Type 0 where
   last_word : {p : ℕ} {w : List ℕ} → Unspaced w → Words p w (piece p w ∷ [])
-  word_then_lem : {p : ℕ} {w s r : List ℕ} {l : List Piece} → Unspaced w → White s → Words (p + (length w + length s)) r l → Words p (w ++ (s ++ r)) (piece p w ∷ l)
+  word_then_more : {p : ℕ} {w s r : List ℕ} {l : List Piece} → Unspaced w → White s → Words (p + (length w + length s)) r l → Words p (w ++ (s ++ r)) (piece p w ∷ l)
 
 -- an amount piece and its unit piece, which may be missing, and whether white space stands between them
 pub record Pair : Type 0 where

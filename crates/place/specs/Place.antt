@@ -23,7 +23,7 @@ pub data FirstBad (n : ℕ) : List Pair → ℕ → Type 0 where
   -- the amount is none
   bad_amount : {c : Pair} {d : List Pair} → ((v : Value) → Amount n c.amount.bytes v → ⊥) → FirstBad n (c ∷ d) c.amount.at
   -- the amount is one, the unit is none
-  bad_unit_lem : {a w : Piece} {s : Bool} {v : Value} {d : List Pair} → Amount n a.bytes v → is_unit w.bytes ≡ false → FirstBad n (pair a s (some w) ∷ d) w.at
+  bad_unit_piece : {a w : Piece} {s : Bool} {v : Value} {d : List Pair} → Amount n a.bytes v → is_unit w.bytes ≡ false → FirstBad n (pair a s (some w) ∷ d) w.at
   -- both are good, and a later piece is the first bad one
   later : {c : Pair} {v : Value} {d : List Pair} {p : ℕ} → Amount n c.amount.bytes v → UnitPiece c.unit → FirstBad n d p → FirstBad n (c ∷ d) p
 

@@ -4,7 +4,7 @@ ghost use Rattle.std.specs.Int.Signed.{quot_z};
 ghost use Rattle.number.specs.Widths.{fit, int32, int64};
 ghost use Rattle.amount.specs.Grammar.{precision};
 ghost use Rattle.amount.specs.Read.{value_of, SameSign};
-ghost use Rattle.rule.specs.Contribution.{times, whole_times, frac_times, contribution, counts as threeOf, plus};
+ghost use Rattle.rule.specs.Contribution.{times, whole_times, frac_times, contribution, counts as three_of, plus};
 ghost use Rattle.total.specs.Read.{counts_of};
 ghost use Rattle.count.specs.Read.{maybe_months, maybe_days, maybe_nanos};
 ghost use Rattle.total.specs.Helpers.{sum_of, Most, Proper, Ratio, together, fitting, added};
@@ -76,7 +76,7 @@ pub fn cut(frac: i64, a: u32, c: u64) -> i64
 // Months alone: the amount times k. A fraction counts ten to the limit, so that its factor is a over c.
 pub fn months(amount: IntervalAmount, k: u32, a: u32, c: u64) -> Sum
     requires { Proper amount.integer amount.frac × (1 ≤ k) × (k ≤ 1200) × Ratio k a c }
-    ensures { sum_of result ≡ fitting (threeOf (times precision k (value_of amount)) (pos 0) (pos 0)) }
+    ensures { sum_of result ≡ fitting (three_of (times precision k (value_of amount)) (pos 0) (pos 0)) }
 {
     let whole = amount.integer;
     let frac = amount.frac;
@@ -90,7 +90,7 @@ pub fn months(amount: IntervalAmount, k: u32, a: u32, c: u64) -> Sum
 // Months, and thirty days to one of them.
 pub fn months_and_days(amount: IntervalAmount) -> Sum
     requires { Proper amount.integer amount.frac }
-    ensures { sum_of result ≡ fitting (threeOf (whole_times 1 (value_of amount)) (frac_times precision 30 (value_of amount)) (pos 0)) }
+    ensures { sum_of result ≡ fitting (three_of (whole_times 1 (value_of amount)) (frac_times precision 30 (value_of amount)) (pos 0)) }
 {
     let whole = amount.integer;
     let frac = amount.frac;
@@ -104,7 +104,7 @@ pub fn months_and_days(amount: IntervalAmount) -> Sum
 // Days, k to one of the amount, and the nanoseconds of its fraction, where a counts 10^11.
 pub fn days_and_nanos(amount: IntervalAmount, k: u32, a: u32) -> Sum
     requires { Proper amount.integer amount.frac × (1 ≤ k) × (k ≤ 1200) × (a ≤ 6048) }
-    ensures { sum_of result ≡ fitting (threeOf (pos 0) (whole_times k (value_of amount)) (frac_times precision (a * 100_000_000_000) (value_of amount))) }
+    ensures { sum_of result ≡ fitting (three_of (pos 0) (whole_times k (value_of amount)) (frac_times precision (a * 100_000_000_000) (value_of amount))) }
 {
     let whole = amount.integer;
     let frac = amount.frac;
@@ -118,7 +118,7 @@ pub fn days_and_nanos(amount: IntervalAmount, k: u32, a: u32) -> Sum
 // Nanoseconds alone: the amount times k, of which `most` fit.
 pub fn nanos(amount: IntervalAmount, k: u64, most: u64, a: u32, c: u64) -> Sum
     requires { Proper amount.integer amount.frac × Most k most × Ratio k a c }
-    ensures { sum_of result ≡ fitting (threeOf (pos 0) (pos 0) (times precision k (value_of amount))) }
+    ensures { sum_of result ≡ fitting (three_of (pos 0) (pos 0) (times precision k (value_of amount))) }
 {
     let whole = amount.integer;
     let frac = amount.frac;
@@ -132,7 +132,7 @@ pub fn nanos(amount: IntervalAmount, k: u64, most: u64, a: u32, c: u64) -> Sum
 // Nanoseconds as they are: a fraction of one comes to nothing.
 pub fn nanoseconds(amount: IntervalAmount) -> Sum
     requires { Proper amount.integer amount.frac }
-    ensures { sum_of result ≡ fitting (threeOf (pos 0) (pos 0) (times precision 1 (value_of amount))) }
+    ensures { sum_of result ≡ fitting (three_of (pos 0) (pos 0) (times precision 1 (value_of amount))) }
 {
     let whole = amount.integer;
     counts(

@@ -1,6 +1,5 @@
 -- `cells::put_index` meets its contract: the index is written where a text was refused, and else kept. Assumes nothing.
 use mathlib.Core.Path.{refl}
-use borrow.Author.Rules.{rules}
 use Rattle.cells.proofs.put_index.Goals as goal
 
 pub returns-in-Accepted : goal.returns-in-Accepted

@@ -1,7 +1,6 @@
 -- `cells::put_place` meets its contract: the place is written where the refusal has one, and else kept. Assumes nothing.
 use mathlib.Core.Path.{sym, ap, ◌∙◌, refl}
 use Rattle.place.specs.Read.{maybe_place}
-use borrow.Author.Rules.{rules}
 use Rattle.cells.proofs.put_place.Goals as goal
 
 pub returns-in-Some : goal.returns-in-Some

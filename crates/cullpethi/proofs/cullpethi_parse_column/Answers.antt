@@ -2,7 +2,6 @@
 use mathlib.Core.Path.{refl, sym, ap, ◌∙◌}
 use Rattle.parse_column.specs.Numbers.{column_named}
 use Rattle.cullpethi.proofs.Numbering.{in_column_lem, no_column}
-use borrow.Author.Rules.{rules}
 use Rattle.cullpethi.proofs.cullpethi_parse_column.Goals as goal
 
 pub returns-in-Column : goal.returns-in-Column

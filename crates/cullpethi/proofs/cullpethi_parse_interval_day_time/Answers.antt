@@ -1,5 +1,4 @@
 -- `cullpethi::cullpethi_parse_interval_day_time` meets its contract: the reader's outcome and place are told. Assumes nothing.
-use borrow.Author.Rules.{rules}
 use Rattle.cullpethi.proofs.cullpethi_parse_interval_day_time.Goals as goal
 
 pub returns : goal.returns

@@ -7,7 +7,6 @@ use Rattle.rule.specs.Contribution.{counts}
 use Rattle.cullpethi.specs.DefaultUnit.{in_unit}
 use Rattle.cullpethi.proofs.Numbering.{in_unit_lem, place_in_unit_lem}
 use Rattle.cells.proofs.Telling.{kept}
-use borrow.Author.Rules.{rules}
 use Rattle.cullpethi.proofs.cullpethi_parse_interval_month_day_nano_config.Goals as goal
 
 pub returns-in-Unit : goal.returns-in-Unit

@@ -1,5 +1,4 @@
 -- `cullpethi::cullpethi_parse_interval_year_month` meets its contract: the reader's outcome and place are told. Assumes nothing.
-use borrow.Author.Rules.{rules}
 use Rattle.cullpethi.proofs.cullpethi_parse_interval_year_month.Goals as goal
 
 pub returns : goal.returns

@@ -1,5 +1,4 @@
 -- `cullpethi::cullpethi_parse_time32_second` meets its contract: the reader's outcome is told. Assumes nothing.
-use borrow.Author.Rules.{rules}
 use Rattle.cullpethi.proofs.cullpethi_parse_time32_second.Goals as goal
 
 pub returns : goal.returns

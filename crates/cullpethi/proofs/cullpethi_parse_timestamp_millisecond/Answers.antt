@@ -1,5 +1,4 @@
 -- `cullpethi::cullpethi_parse_timestamp_millisecond` meets its contract: the reader's outcome is told. Assumes nothing.
-use borrow.Author.Rules.{rules}
 use Rattle.cullpethi.proofs.cullpethi_parse_timestamp_millisecond.Goals as goal
 
 pub returns : goal.returns

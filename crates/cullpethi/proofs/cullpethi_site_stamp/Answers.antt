@@ -1,5 +1,4 @@
 -- `cullpethi::cullpethi_site_stamp` meets its contract: the reader's outcome is told. Assumes nothing.
-use borrow.Author.Rules.{rules}
 use Rattle.cullpethi.proofs.cullpethi_site_stamp.Goals as goal
 
 pub returns : goal.returns

@@ -1,5 +1,4 @@
 -- `cullpethi::cullpethi_string_to_timestamp_nanos` meets its contract: the reader's outcome is told. Assumes nothing.
-use borrow.Author.Rules.{rules}
 use Rattle.cullpethi.proofs.cullpethi_string_to_timestamp_nanos.Goals as goal
 
 pub returns : goal.returns

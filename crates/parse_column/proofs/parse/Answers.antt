@@ -1,7 +1,6 @@
 -- `parse_column::parse` meets its contract, type by type. Assumes nothing.
 use mathlib.Core.Path.{◌∙◌}
 use Rattle.parse_column.proofs.Types.{by_type}
-use borrow.Author.Rules.{rules}
 use Rattle.parse_column.proofs.parse.Goals as goal
 
 pub returns-in-TimestampNanosecond : goal.returns-in-TimestampNanosecond

@@ -6,7 +6,6 @@ use Rattle.column.specs.Columns.{column as reading}
 use Rattle.parse_column.specs.Helpers.{refused_at, stored_from}
 use Rattle.whole_column.specs.Answer.{cut}
 use Rattle.parse_column.proofs.Passes.{fitting, accepted_all, refused_one, none_read}
-use borrow.Author.Rules.{rules}
 use Rattle.parse_column.proofs.parse_column.Goals as goal
 
 pub read-requires : goal.read-requires

@@ -1,11 +1,8 @@
 use mir.Syntax.{w32, w64}
 use mir.Facts.{Fits-widen}
 use Rattle.parse_column.proofs.Order.{falls, passes, goes_on, no_end}
-use mathlib.Core.Path.{◌≡◌, refl, sym, ◌∙◌}
-use Prim.Native.Nat.{◌-◌, ◌≤◌}
-use lib.ListN.{length, drop}
+use mathlib.Core.Path.{refl, sym, ◌∙◌}
 use borrow.Author.Rules.{rules}
-use Rattle.whole_column.specs.Answer.{in_order}
 use Rattle.parse_column.proofs.ends.in_order.Goals as goal
 
 pub loop-i-init : goal.loop-i-init

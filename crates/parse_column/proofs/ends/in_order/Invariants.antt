@@ -1,11 +1,7 @@
 -- `parse_column::ends::in_order` meets its contract. The loop's invariant: what is left to see decides. Assumes nothing.
-use mir.Syntax.{w32, w64}
-use mir.Facts.{Fits-widen}
-use Rattle.parse_column.proofs.Order.{falls, passes, goes_on, no_end}
-use mathlib.Core.Path.{◌≡◌, refl, sym, ◌∙◌}
+use mathlib.Core.Path.{◌≡◌}
 use Prim.Native.Nat.{◌-◌, ◌≤◌}
 use lib.ListN.{length, drop}
-use borrow.Author.Rules.{rules}
 use Rattle.whole_column.specs.Answer.{in_order}
 use Rattle.parse_column.proofs.ends.in_order.Given as goal
 

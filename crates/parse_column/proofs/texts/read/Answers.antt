@@ -1,19 +1,18 @@
 use mathlib.Core.Path.{◌≡◌, refl, sym, ap, ◌∙◌}
-use mathlib.Core.Bool.{true, cond}
-use mathlib.Core.Logic.{⊎_elim}
-use Prim.Native.Nat.{◌+◌, ◌-◌, ◌≤◌, ◌<◌}
+use mathlib.Core.Bool.{cond}
+use Prim.Native.Nat.{◌+◌, ◌<◌}
 use native.Mathlib.Omega.{arith}
 use lib.ListN.{length, drop, get_or}
 use borrow.Author.Rules.{rules}
 use mir.Syntax.{w32, w64}
 use mir.Facts.{Fits-widen}
 use Rattle.column.specs.Columns.{column as reading}
-use Rattle.whole_column.specs.Answer.{in_order, cut}
+use Rattle.whole_column.specs.Answer.{cut}
 use Rattle.refusal.specs.Outcome.{outcome64}
 use Rattle.refusal.proofs.Outcomes.{back}
 use Rattle.parse_column.proofs.Order.{next}
 use Rattle.parse_column.proofs.Turns.{goes_on, stops, keeps, none_left, none_stored, stored_one, stored_none, stored_all}
-use Rattle.parse_column.specs.Helpers.{refused_from, stored_from}
+use Rattle.parse_column.specs.Helpers.{stored_from}
 use Rattle.parse_column.proofs.texts.read.Goals as goal
 use Rattle.parse_column.proofs.texts.read.Goals.{then-store, else-store}
 
@@ -48,13 +47,13 @@ loop-i-preserved c = let e = back {w = w64} {z = c.in-Value.z} (record { sfits =
     let h : c.loop-i.i < length c.args.ends.now = search rules in
     let q = next (length c.args.texts.now) c.loop-i.from c.args.ends.now c.loop-i.i h c.loop-i.invariant.2 in
     let k :
-            (length c.if-store.cells ≡ length c.loop-i.cells)
-            × (cond c.args.store (stored_from (reading c.args.column) c.loop-i.i (cut c.args.texts.now c.loop-i.from (drop c.loop-i.i c.args.ends.now)) c.loop-i.cells) c.loop-i.cells
-                ≡ cond c.args.store (stored_from (reading c.args.column) (c.loop-i.i + 1) (cut c.args.texts.now (get_or c.args.ends.now c.loop-i.i 0) (drop (c.loop-i.i + 1) c.args.ends.now)) c.if-store.cells) c.if-store.cells) =
-        elim c.if-store.branch [
-            then-store w ↦ stored_one (reading c.args.column) c.args.texts.now c.args.ends.now c.loop-i.from c.loop-i.i h c.args.store c.loop-i.cells c.if-store.cells e w.if-store.true w.cells-is
-          | else-store w ↦ stored_none (reading c.args.column) c.args.texts.now c.args.ends.now c.loop-i.from c.loop-i.i h c.args.store c.loop-i.cells c.if-store.cells e w.if-store.false w.cells-is
-        ] in (
+    (length c.if-store.cells ≡ length c.loop-i.cells)
+    × (cond c.args.store (stored_from (reading c.args.column) c.loop-i.i (cut c.args.texts.now c.loop-i.from (drop c.loop-i.i c.args.ends.now)) c.loop-i.cells) c.loop-i.cells
+    ≡ cond c.args.store (stored_from (reading c.args.column) (c.loop-i.i + 1) (cut c.args.texts.now (get_or c.args.ends.now c.loop-i.i 0) (drop (c.loop-i.i + 1) c.args.ends.now)) c.if-store.cells) c.if-store.cells) =
+    elim c.if-store.branch [
+      | then-store w ↦ stored_one (reading c.args.column) c.args.texts.now c.args.ends.now c.loop-i.from c.loop-i.i h c.args.store c.loop-i.cells c.if-store.cells e w.if-store.true w.cells-is
+      | else-store w ↦ stored_none (reading c.args.column) c.args.texts.now c.args.ends.now c.loop-i.from c.loop-i.i h c.args.store c.loop-i.cells c.if-store.cells e w.if-store.false w.cells-is
+    ] in (
       search rules,
       q.0.1,
       q.1,
@@ -65,7 +64,7 @@ loop-i-preserved c = let e = back {w = w64} {z = c.in-Value.z} (record { sfits =
 
 pub returns : goal.returns
 returns c = (
-      sym (c.loop-i.invariant.4 ∙ none_left (reading c.args.column) c.args.texts.now c.args.ends.now c.loop-i.from c.loop-i.i (search rules)),
-      sym (c.loop-i.invariant.5 ∙ stored_all (reading c.args.column) c.args.texts.now c.args.ends.now c.loop-i.from c.loop-i.i c.args.store c.loop-i.cells
-          (none_stored (reading c.args.column) c.args.texts.now c.args.ends.now c.loop-i.from c.loop-i.i c.loop-i.cells (search rules))),
-    )
+  sym (c.loop-i.invariant.4 ∙ none_left (reading c.args.column) c.args.texts.now c.args.ends.now c.loop-i.from c.loop-i.i (search rules)),
+  sym (c.loop-i.invariant.5 ∙ stored_all (reading c.args.column) c.args.texts.now c.args.ends.now c.loop-i.from c.loop-i.i c.args.store c.loop-i.cells
+      (none_stored (reading c.args.column) c.args.texts.now c.args.ends.now c.loop-i.from c.loop-i.i c.loop-i.cells (search rules))),
+)

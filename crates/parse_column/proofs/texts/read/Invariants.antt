@@ -1,19 +1,10 @@
 -- `parse_column::texts::read` meets its contract. The loop's invariant: what the texts from here on give, all give. Assumes nothing.
-use mathlib.Core.Path.{◌≡◌, refl, sym, ap, ◌∙◌}
+use mathlib.Core.Path.{◌≡◌}
 use mathlib.Core.Bool.{true, cond}
-use mathlib.Core.Logic.{⊎_elim}
-use Prim.Native.Nat.{◌-◌, ◌≤◌, ◌<◌}
-use native.Mathlib.Omega.{arith}
+use Prim.Native.Nat.{◌-◌, ◌≤◌}
 use lib.ListN.{length, drop}
-use borrow.Author.Rules.{rules}
-use mir.Syntax.{w32, w64}
-use mir.Facts.{Fits-widen}
 use Rattle.column.specs.Columns.{column as reading}
 use Rattle.whole_column.specs.Answer.{in_order, cut}
-use Rattle.refusal.specs.Outcome.{outcome64}
-use Rattle.refusal.proofs.Outcomes.{back}
-use Rattle.parse_column.proofs.Order.{next}
-use Rattle.parse_column.proofs.Turns.{goes_on, stops, keeps, none_left, none_stored, stored_one, stored_none, stored_all}
 use Rattle.parse_column.specs.Helpers.{refused_from, stored_from}
 use Rattle.parse_column.proofs.texts.read.Given as goal
 
