@@ -42,8 +42,12 @@ fn given(folder: PathBuf) -> PathBuf {
 fn built() -> PathBuf {
     let repository = Path::new(&env::var_os("CARGO_MANIFEST_DIR").unwrap()).join("../..");
     println!("cargo:rerun-if-env-changed=RATTLE_HOME");
-    for part in ["crates.txt", "crates"] {
-        println!("cargo:rerun-if-changed={}", repository.join(part).display());
+    println!(
+        "cargo:rerun-if-changed={}",
+        repository.join("crates.txt").display()
+    );
+    for part in sources(&repository) {
+        println!("cargo:rerun-if-changed={}", part.display());
     }
     proved(&repository);
     let folder = PathBuf::from(env::var_os("OUT_DIR").unwrap());
@@ -52,6 +56,16 @@ fn built() -> PathBuf {
         stop(&format!("{} cannot be copied: {e}", library.display()));
     }
     folder
+}
+
+/// The folders that the library is made of: not `out`, which `rt` writes.
+fn sources(repository: &Path) -> Vec<PathBuf> {
+    let crates = fs::read_dir(repository.join("crates"))
+        .into_iter()
+        .flatten()
+        .flatten();
+    let parts = crates.flat_map(|of| ["src", "specs", "proofs"].map(|part| of.path().join(part)));
+    parts.filter(|part| part.is_dir()).collect()
 }
 
 /// Runs `./staticlib`, and shows each crate as it is proved, which it says on stderr.
