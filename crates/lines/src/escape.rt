@@ -22,7 +22,7 @@ pub fn unescape(s: &[u8], out: &mut [u8]) -> usize
 }
 
 // A byte of a text, and the place after what writes it.
-#[derive(Drop)]
+#[derive(Clone, Copy)]
 struct Unit {
     byte: u8,
     next: usize,

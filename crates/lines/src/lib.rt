@@ -6,7 +6,7 @@ pub mod input;
 pub mod names;
 
 // What was taken of an input.
-#[derive(Drop)]
+#[derive(Clone, Copy)]
 pub struct Taken {
     // How many bytes of the line there are then; one more than there is room for stands for a line that is too long.
     pub held: usize,

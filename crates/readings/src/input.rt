@@ -5,7 +5,7 @@ use std::io;
 use std::io::Read;
 
 // Where the reading stands.
-#[derive(Drop)]
+#[derive(Clone, Copy)]
 struct Held {
     // How many bytes of a line are held; one more than there is room for stands for a line that is too long.
     n: usize,

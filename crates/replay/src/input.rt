@@ -6,14 +6,14 @@ use std::io;
 use std::io::Read;
 
 // How many lines passed and failed.
-#[derive(Drop)]
+#[derive(Clone, Copy)]
 pub struct Tally {
     pub passed: u64,
     pub failed: u64,
 }
 
 // Where the reading stands.
-#[derive(Drop)]
+#[derive(Clone, Copy)]
 struct Held {
     // How many bytes of a line are held; one more than there is room for stands for a line that is too long.
     n: usize,
