@@ -14,16 +14,12 @@ abbrev in_millis : Outcome ℤ → Outcome ℤ
 in_millis o = and_then o (λ z. accepted (z *ℤ pos 86400000))
 
 pub overflow_mul-result : goal.overflow_mul-result
-overflow_mul-result c =
-    let wide : SFits w64 c.in-Day.day = record { sfits = (search rules) } in
-    let named : accepted c.in-Day.day ≡ day_named c.args.s.now = sym (ap named_is c.in-Day.is) ∙ c.parse_date.ensures in
-    day_fits (wide) (short_most c.args.s.now c.in-Day.day (sym (named)) (search (c, rules)))
+overflow_mul-result c = day_fits (record { sfits = search rules }) (short_most c.args.s.now c.in-Day.day (sym c.parse_date.ensures ∙ ap named_is c.in-Day.is) c.requires.s_len_bound)
 
 pub returns-in-Day : goal.returns-in-Day
 returns-in-Day c =
-    let wide : SFits w64 c.in-Day.day = record { sfits = (search rules) } in
-    let named : accepted c.in-Day.day ≡ day_named c.args.s.now = sym (ap named_is c.in-Day.is) ∙ c.parse_date.ensures in
-    ap accepted (day_is (wide) (short_most c.args.s.now c.in-Day.day (sym (named)) (search (c, rules)))) ∙ ap in_millis (named)
+    ap accepted (day_is (record { sfits = search rules }) (short_most c.args.s.now c.in-Day.day (sym c.parse_date.ensures ∙ ap named_is c.in-Day.is) c.requires.s_len_bound)) ∙
+    ap in_millis (sym (ap named_is c.in-Day.is) ∙ c.parse_date.ensures)
 
 pub returns-in-Refused : goal.returns-in-Refused
 returns-in-Refused c = ap in_millis (sym (ap named_is c.in-Refused.is) ∙ c.parse_date.ensures)

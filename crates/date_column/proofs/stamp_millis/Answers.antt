@@ -18,16 +18,14 @@ in_millis o = and_then o (λ m. millis (instant m))
 
 pub timestamp_millis-requires : goal.timestamp_millis-requires
 timestamp_millis-requires c =
-    let named : accepted (moment_of c.in-At.x) ≡ datetime c.args.s.now = sym (ap moment_is c.in-At.is) ∙ c.string_to_datetime.ensures in
     let m = moment_of c.in-At.x in
-    let b = moment_most ((agrees c.args.s.now m).1 (sym (named))) in
+    let b = moment_most ((agrees c.args.s.now m).1 (sym c.string_to_datetime.ensures ∙ ap moment_is c.in-At.is)) in
     record { day_bound = near m.day 4400000 b.0; time_bound = b.1 }
 
 pub returns-in-At : goal.returns-in-At
 returns-in-At c =
-    let named : accepted (moment_of c.in-At.x) ≡ datetime c.args.s.now = sym (ap moment_is c.in-At.is) ∙ c.string_to_datetime.ensures in
     rw (to_z-of_z {w = w64} {z = c.timestamp_millis.result} (record { sfits = c.timestamp_millis.type_inv }))
-    (ap accepted c.timestamp_millis.ensures ∙ ap in_millis (named))
+    (ap accepted c.timestamp_millis.ensures ∙ ap in_millis (sym (ap moment_is c.in-At.is) ∙ c.string_to_datetime.ensures))
 
 pub returns-in-Refused : goal.returns-in-Refused
 returns-in-Refused c = ap in_millis (sym (ap moment_is c.in-Refused.is) ∙ c.string_to_datetime.ensures)

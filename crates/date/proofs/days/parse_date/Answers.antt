@@ -6,11 +6,7 @@ use Rattle.date.proofs.Outcomes.{date_form, no_date_form}
 use Rattle.date.proofs.days.parse_date.Goals as goal
 
 pub of_text-requires : goal.of_text-requires
-of_text-requires c =
-    let first : is_sign (get_or c.args.s.now 0 0) ≡ is_sign c.byte_at-first.result = sym (ap is_sign c.byte_at-first.ensures) in
-    ap on_day c.form_day.ensures ∙ date_form c.args.s.now _ (first) c.if-sign-s.true
+of_text-requires c = ap on_day c.form_day.ensures ∙ date_form c.args.s.now _ (sym (ap is_sign c.byte_at-first.ensures)) c.if-sign-s.true
 
 pub returns : goal.returns
-returns c =
-    let first : is_sign (get_or c.args.s.now 0 0) ≡ is_sign c.byte_at-first.result = sym (ap is_sign c.byte_at-first.ensures) in
-    c.stamp_day.ensures ∙ no_date_form c.args.s.now _ (first) c.if-sign-s.false
+returns c = c.stamp_day.ensures ∙ no_date_form c.args.s.now _ (sym (ap is_sign c.byte_at-first.ensures)) c.if-sign-s.false

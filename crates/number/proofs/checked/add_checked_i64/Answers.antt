@@ -15,13 +15,13 @@ pub overflow_add-result-then-b-a : goal.overflow_add-result-then-b-a
 overflow_add-result-then-b-a c = sum_below c.ranges.a c.ranges.b c.if-b-ge0.false c.if-b-a.true
 
 pub returns-then-a-b : goal.returns-then-a-b
-returns-then-a-b c = sum_fits c.ranges.a c.ranges.b ((sum_above c.ranges.a c.ranges.b c.if-b-ge0.true c.if-a-b.true))
+returns-then-a-b c = sum_fits c.ranges.a c.ranges.b (sum_above c.ranges.a c.ranges.b c.if-b-ge0.true c.if-a-b.true)
 
 pub returns-else-a-b : goal.returns-else-a-b
 returns-else-a-b c = over_above c.ranges.a c.ranges.b c.if-b-ge0.true c.if-a-b.false
 
 pub returns-then-b-a : goal.returns-then-b-a
-returns-then-b-a c = sum_fits c.ranges.a c.ranges.b ((sum_below c.ranges.a c.ranges.b c.if-b-ge0.false c.if-b-a.true))
+returns-then-b-a c = sum_fits c.ranges.a c.ranges.b (sum_below c.ranges.a c.ranges.b c.if-b-ge0.false c.if-b-a.true)
 
 pub returns-else-b-a : goal.returns-else-b-a
 returns-else-b-a c = over_below c.ranges.a c.ranges.b c.if-b-ge0.false c.if-b-a.false
