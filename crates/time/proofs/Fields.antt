@@ -63,7 +63,7 @@ module _ (s : List ℕ) (at : ℕ) (p : Half) (h : ℕ) {v : ℕ} (e : v ≡ two
       let y : two_digits (drop at s) 0 ≡ true = sym (two_test_lem at s 0 at_zero) ∙ lt-ltb v 100 q in
       rw (two_is at s 0 at_zero y, y, drop-drop 2 at s)
 
--- ---- from the hour on: a, b and c are the first three bytes less 48, and v the number of the first two
+-- ---- from the hour on: a and b are the first two bytes less 48
 
 module _ (s : List ℕ) (p : Half) {a b : ℕ} (fits : (i : ℕ) → get_or s i 0 < 256) (ea : a ≡ digit_of (get_or s 0 0)) (eb : b ≡ digit_of (get_or s 1 0)) where
   one_test : ltb a 10 && eqb b 10 ≡ is_digit (get_or s 0 0) && eqb (get_or s 1 0) 0x3A
@@ -72,18 +72,6 @@ module _ (s : List ℕ) (p : Half) {a b : ℕ} (fits : (i : ℕ) → get_or s i 
   pub one_digit : ltb a 10 && eqb b 10 ≡ true → after_hour p a (drop 2 s) ≡ from_hour p s
   one_digit q =
       rw (sym one_test ∙ q, is_worth (get_or s 0 0) a (fits 0) ea (ltb-true a 10 (and_left (ltb a 10) (eqb b 10) q)))
-
-  module _ {v c : ℕ} (q : ltb a 10 && eqb b 10 ≡ false) (ev : v ≡ two_or s 0) (ec : c ≡ digit_of (get_or s 2 0)) where
-    two_digit_test : ltb v 100 && eqb c 10 ≡ two_digits s 0 && eqb (get_or s 2 0) 0x3A
-    two_digit_test = rw (two_test_lem 0 s 0 ev, ec, sign (get_or s 2 0) 10 0x3A (fits 2) (lit< tt) refl)
-
-    pub two_digits_lem : ltb v 100 && eqb c 10 ≡ true → after_hour p v (drop 3 s) ≡ from_hour p s
-    two_digits_lem r =
-        let y : two_digits s 0 && eqb (get_or s 2 0) 0x3A ≡ true = sym two_digit_test ∙ r in
-        rw (sym one_test ∙ q, y, two_is 0 s 0 ev (and_left (two_digits s 0) (eqb (get_or s 2 0) 0x3A) y))
-
-    pub no_hour : ltb v 100 && eqb c 10 ≡ false → none ≡ from_hour p s
-    no_hour r = rw (sym one_test ∙ q, sym two_digit_test ∙ r)
 
 -- ---- without AM or PM
 

@@ -43,25 +43,14 @@ below_100 a b t e =
 
 -- ---- yyyymmdd: century, year of it, month and day are the numbers at their places
 
-pub record CompactRead (s : List ℕ) (c y m d : ℕ) : Type 0 where
-  pub century : c ≡ two_or s 0
-  pub year : y ≡ two_or s 2
-  pub month : m ≡ two_or s 4
-  pub day : d ≡ two_or s 6
-
 -- the code's test of the shape, for a text of n bytes
 abbrev pub compact_test : ℕ → ℕ → ℕ → ℕ → ℕ → Bool
 compact_test n c y m d = eqb n 8 && ((ltb c 100 && ltb y 100) && (ltb m 100 && ltb d 100))
 
-pub compact_year : (n c y m d : ℕ) → not (compact_test n c y m d) ≡ false → (c < 100) × (y < 100)
-compact_year n c y m d e =
-    let fields = ltb m 100 && ltb d 100 in
-    below_100 c y fields (both (eqb n 8) ((ltb c 100 && ltb y 100) && fields) (not-false (compact_test n c y m d) e)).1
-
-module _ {s : List ℕ} {c y m d : ℕ} (r : CompactRead s c y m d) where
+module _ (s : List ℕ) {c y m d : ℕ} (ec : c ≡ two_or s 0) (ey : y ≡ two_or s 2) (em : m ≡ two_or s 4) (ed : d ≡ two_or s 6) where
   compact_test_lem : compact_test (length s) c y m d ≡ eqb (length s) 8 && (four_digits s && (two_digits s 4 && two_digits s 6))
   compact_test_lem =
-      rw (two_test_lem 0 s 0 r.century, two_test_lem 0 s 2 r.year, two_test_lem 0 s 4 r.month, two_test_lem 0 s 6 r.day)
+      rw (two_test_lem 0 s 0 ec, two_test_lem 0 s 2 ey, two_test_lem 0 s 4 em, two_test_lem 0 s 6 ed)
 
   pub no_compact : not (compact_test (length s) c y m d) ≡ true → none ≡ compact_day s
   no_compact e = rw (sym compact_test_lem ∙ not-true (compact_test (length s) c y m d) e)
@@ -71,7 +60,7 @@ module _ {s : List ℕ} {c y m d : ℕ} (r : CompactRead s c y m d) where
       let t = sym compact_test_lem ∙ not-false (compact_test (length s) c y m d) e in
       let p = both (eqb (length s) 8) (four_digits s && (two_digits s 4 && two_digits s 6)) t in
       let x = in_pairs (two_digits s 0) (two_digits s 2) (two_digits s 4) (two_digits s 6) p.1 in
-      rw (t, two_is 0 s 0 r.century x.0, two_is 0 s 2 r.year x.1, two_is 0 s 4 r.month x.2, two_is 0 s 6 r.day x.3)
+      rw (t, two_is 0 s 0 ec x.0, two_is 0 s 2 ey x.1, two_is 0 s 4 em x.2, two_is 0 s 6 ed x.3)
 
 -- ---- one or two digits from place n on: a is the number of two, and f that no digit follows them
 
@@ -102,12 +91,6 @@ module _ (s : List ℕ) (n : ℕ) {a : ℕ} {f : Bool} (ea : a ≡ two_or s n) (
 
 -- ---- yyyy-m-d: century, year of it and month as above, h the byte behind two digits of the month; o its one digit, k the byte behind
 
-pub record HyphensRead (s : List ℕ) (c y m h : ℕ) : Type 0 where
-  pub century : c ≡ two_or s 0
-  pub year : y ≡ two_or s 2
-  pub month : m ≡ two_or s 5
-  pub hyphen : h ≡ digit_of (get_or s 7 0)
-
 -- the code's tests of the year and the month of two digits or one, in which a hyphen is 253
 abbrev pub two_test : ℕ → ℕ → ℕ → ℕ → Bool
 two_test c y m h = (ltb c 100 && ltb y 100) && (ltb m 100 && eqb h 253)
@@ -115,28 +98,28 @@ two_test c y m h = (ltb c 100 && ltb y 100) && (ltb m 100 && eqb h 253)
 abbrev pub one_test : ℕ → ℕ → ℕ → ℕ → Bool
 one_test c y o k = (ltb c 100 && ltb y 100) && (ltb o 10 && eqb k 253)
 
-module _ {s : List ℕ} {c y m h : ℕ} (fits : (i : ℕ) → get_or s i 0 < 256) (r : HyphensRead s c y m h) where
+module _ (s : List ℕ) {c y m h : ℕ} (fits : (i : ℕ) → get_or s i 0 < 256) (ec : c ≡ two_or s 0) (ey : y ≡ two_or s 2) (em : m ≡ two_or s 5) (eh : h ≡ digit_of (get_or s 7 0)) where
   two_month : two_test c y m h ≡ four_digits s && (two_digits s 5 && eqb (get_or s 7 0) 0x2D)
   two_month =
       rw (
-        two_test_lem 0 s 0 r.century,
-        two_test_lem 0 s 2 r.year,
-        two_test_lem 0 s 5 r.month,
-        sign_test 0 s 7 253 0x2D (fits 7) (lit< tt) refl r.hyphen,
+        two_test_lem 0 s 0 ec,
+        two_test_lem 0 s 2 ey,
+        two_test_lem 0 s 5 em,
+        sign_test 0 s 7 253 0x2D (fits 7) (lit< tt) refl eh,
       )
 
   pub after_two : two_test c y m h ≡ true → last_day (pos (c * 100 + y)) m (drop 8 s) ≡ hyphen_day s
   after_two e =
       let t = sym two_month ∙ e in
       let x = in_pairs (two_digits s 0) (two_digits s 2) (two_digits s 5) (eqb (get_or s 7 0) 0x2D) t in
-      rw (t, two_is 0 s 0 r.century x.0, two_is 0 s 2 r.year x.1, two_is 0 s 5 r.month x.2)
+      rw (t, two_is 0 s 0 ec x.0, two_is 0 s 2 ey x.1, two_is 0 s 5 em x.2)
 
   module _ {o k : ℕ} (no_two : two_test c y m h ≡ false) (eo : o ≡ digit_of (get_or s 5 0)) (ek : k ≡ digit_of (get_or s 6 0)) where
     one_month : one_test c y o k ≡ four_digits s && (is_digit (get_or s 5 0) && eqb (get_or s 6 0) 0x2D)
     one_month =
         rw (
-          two_test_lem 0 s 0 r.century,
-          two_test_lem 0 s 2 r.year,
+          two_test_lem 0 s 0 ec,
+          two_test_lem 0 s 2 ey,
           digit_below (get_or s 5 0) o (fits 5) eo,
           sign_test 0 s 6 253 0x2D (fits 6) (lit< tt) refl ek,
         )
@@ -146,7 +129,7 @@ module _ {s : List ℕ} {c y m h : ℕ} (fits : (i : ℕ) → get_or s i 0 < 256
         let t = sym one_month ∙ e in
         let x = in_pairs (two_digits s 0) (two_digits s 2) (is_digit (get_or s 5 0)) (eqb (get_or s 6 0) 0x2D) t in
         let w : o < 10 = ltb-true o 10 (digit_below (get_or s 5 0) o (fits 5) eo ∙ x.2) in
-        rw (sym two_month ∙ no_two, t, two_is 0 s 0 r.century x.0, two_is 0 s 2 r.year x.1, is_worth (get_or s 5 0) o (fits 5) eo w)
+        rw (sym two_month ∙ no_two, t, two_is 0 s 0 ec x.0, two_is 0 s 2 ey x.1, is_worth (get_or s 5 0) o (fits 5) eo w)
 
     pub no_month : one_test c y o k ≡ false → none ≡ hyphen_day s
     no_month e = rw (sym two_month ∙ no_two, sym one_month ∙ e)
