@@ -2,7 +2,7 @@
 use mathlib.Core.Path.{◌≡◌, refl, ap}
 use mathlib.Core.Bool.{Bool, true, false}
 use mathlib.Core.Option.{none, some}
-use Prim.Native.Nat.{ℕ, zero, suc, ◌+◌, ◌-◌, ◌%◌, ◌^◌, ◌≤◌, ◌<◌}
+use Prim.Native.Nat.{ℕ, ◌+◌, ◌-◌, ◌%◌, ◌^◌, ◌≤◌, ◌<◌}
 use native.Mathlib.Omega.{arith}
 use lib.Dec.{eqb}
 use lib.IntN.{ℤ, pos, ◌-ℤ◌}
@@ -10,22 +10,15 @@ use mir.Syntax.{w64}
 use mir.Val.{SFits, to_z}
 use mir.Facts.{to_z_pos}
 use Rattle.number.proofs.Zed.{add_pn, sub-ℤ, eq_of, fits_of}
-use Rattle.text.proofs.Bools.{within_yes, within_under, within_over}
+use Rattle.text.proofs.Bools.{within_yes, within_over}
 use Rattle.calendar.specs.Calendar.{leap, days_of, year_days, year_start, month_days, before, day_number, civil}
 use Rattle.calendar.specs.Cycle.{start}
 use Rattle.calendar.proofs.Years.{Counts, shift, in_cycle, first_day}
 
 -- ---- dates that the calendar does not have
 
-pub too_early : (y : ℤ) (m d : ℕ) → d < 1 → none ≡ civil y m d
-too_early y m d h = rw (within_under 1 d (month_days (leap y) m) h)
-
 pub too_late : (y : ℤ) (m d : ℕ) → month_days (leap y) m < d → none ≡ civil y m d
 too_late y m d h = rw (within_over 1 d (month_days (leap y) m) h)
-
-pub no_month : (y : ℤ) (m d : ℕ) → month_days (leap y) m ≡ 0 → none ≡ civil y m d
-no_month y m zero h = refl
-no_month y m (suc d) h = too_late y m (suc d) (omega arith)
 
 -- ---- n counts the year y
 

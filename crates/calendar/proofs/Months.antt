@@ -1,5 +1,5 @@
 -- The days of a year before each month: by the one formula for both kinds of year, and month by month. Assumes nothing.
-use mathlib.Core.Path.{◌≡◌, refl}
+use mathlib.Core.Path.{◌≡◌}
 use mathlib.Core.Bool.{Bool, true, false, cond}
 use Prim.Native.Nat.{ℕ, zero, suc, ◌+◌, ◌-◌, ◌*◌, ◌/◌, ◌≤◌, ◌<◌}
 use native.Mathlib.Omega.{arith}
@@ -37,10 +37,6 @@ has_days l (suc m) h k =
     each : (l : Bool) → T (all_below (λ (i : ℕ). leb 1 (month_days l (suc i))) 12)
     each true = tt
     each false = tt
-
-pub month_0 : (l : Bool) (m : ℕ) → m < 1 → month_days l m ≡ 0
-month_0 l zero h = refl
-month_0 l (suc m) h = absurd (omega arith)
 
 pub past_12 : (l : Bool) (m : ℕ) → 12 < m → month_days l m ≡ 0
 past_12 l m h = rw get_or-eq_default

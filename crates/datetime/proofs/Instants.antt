@@ -1,16 +1,16 @@
--- Instants: a day and the time of it in nanoseconds, by seconds and by the size of the seconds, and the days that are too far. Assumes nothing.
+-- Instants: seconds and nanoseconds, by the size of the seconds, and the seconds of a day and a time of it. Assumes nothing.
 use mathlib.Core.Path.{◌≡◌}
 use mathlib.Core.Bool.{true, false}
 use mathlib.Core.Option.{none}
 use Prim.Native.Nat.{ℕ, ◌+◌, ◌-◌, ◌*◌, ◌^◌, ◌≤◌, ◌<◌}
 use native.Mathlib.Omega.{arith}
 use lib.IntN.{ℤ, pos, negsuc, neg_ℤ, nat_abs, ◌+ℤ◌, ◌*ℤ◌}
-use lib.Signed.{le_z, lt_z}
+use lib.Signed.{le_z}
 use mir.Syntax.{w64}
 use mir.Val.{SFits, to_z}
 use mir.Facts.{to_z-of_z, to_z_pos}
 use Rattle.number.specs.Widths.{fit, signed}
-use Rattle.number.proofs.Zed.{P, N, add_pn, mul_p, mul_n, P-neg, N-neg, le_yes, le_no, lt_yes, lt_no, eq_of, abs_up, abs_down, fits_of}
+use Rattle.number.proofs.Zed.{P, N, add_pn, mul_p, mul_n, P-neg, N-neg, le_yes, le_no, eq_of, abs_up, abs_down, fits_of}
 use Rattle.number.proofs.Ranges.{rd, fit_above, fit_below}
 
 -- k times z, and q more, as P and N have it
@@ -66,44 +66,3 @@ module _ {z : ℤ} (f : SFits w64 z) (x : ℕ) (fx : x < 2 ^ 32) (near : (P z �
 
   pub more_fit : SFits w64 (rd w64 (rd w64 z *ℤ pos 86400) +ℤ to_z w64 x)
   more_fit = rw (to_z-of_z f, to_z-of_z seconds, to_z_pos w64 {n = x} (omega arith)) more_seconds
-
--- ---- day z, and a time of it, of x seconds and p nanoseconds
-
-abbrev pub on_day : ℤ → ℕ → ℕ → ℤ
-on_day z x p = z *ℤ pos 86400000000000 +ℤ pos (x * 1000000000 + p)
-
-module _ {z : ℤ} (f : SFits w64 z) (x p : ℕ) (fx : x < 2 ^ 32) where
-  pub days_before : lt_z (rd w64 z) (negsuc 199999) ≡ true → p < 2 ^ 32 → none ≡ fit 63 (on_day z x p)
-  days_before =
-      rw (to_z-of_z f)
-      (λ h fp. fit_below w64 (on_day z x p)
-      (omega (arith, sum_of z 86400000000000 (x * 1000000000 + p), lt_yes z (negsuc 199999) h)))
-
-  pub days_after : lt_z (pos 200000) (rd w64 z) ≡ true → none ≡ fit 63 (on_day z x p)
-  days_after =
-      rw (to_z-of_z f)
-      (λ h. fit_above w64 (on_day z x p)
-      (omega (arith, sum_of z 86400000000000 (x * 1000000000 + p), lt_yes (pos 200000) z h)))
-
-  module _ (low : lt_z (rd w64 z) (negsuc 199999) ≡ false) (high : lt_z (pos 200000) (rd w64 z) ≡ false) where
-    near : (P z ≤ N z + 4400001) × (N z ≤ P z + 4400001)
-    near =
-        let l = lt_no z (negsuc 199999) (rw (to_z-of_z f) at low) in
-        let h = lt_no (pos 200000) z (rw (to_z-of_z f) at high) in
-        omega arith
-
-    pub day_fits : SFits w64 (rd w64 z *ℤ pos 86400)
-    day_fits = seconds_fit f x fx near
-
-    pub time_fits : SFits w64 (rd w64 (rd w64 z *ℤ pos 86400) +ℤ to_z w64 x)
-    time_fits = more_fit f x fx near
-
-    pub joined : in_all (rd w64 (rd w64 (rd w64 z *ℤ pos 86400) +ℤ to_z w64 x)) p ≡ on_day z x p
-    joined =
-        rw (to_z-of_z f, to_z-of_z (seconds f x fx near), to_z_pos w64 {n = x} (omega arith), to_z-of_z (more_seconds f x fx near))
-        (eq_of (in_all (z *ℤ pos 86400 +ℤ pos x) p) (on_day z x p) (omega (
-          arith,
-          sum_of (z *ℤ pos 86400 +ℤ pos x) 1000000000 p,
-          sum_of z 86400 x,
-          sum_of z 86400000000000 (x * 1000000000 + p),
-        )))

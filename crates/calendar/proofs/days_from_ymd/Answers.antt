@@ -1,59 +1,55 @@
 -- `calendar::days_from_ymd` meets its contract, by the laws of years, months and dates. Assumes nothing.
-use borrow.Author.Rules.{rules}
 use mathlib.Core.Path.{◌≡◌}
-use Prim.Native.Nat.{◌+◌, ◌-◌, ◌*◌, ◌/◌, ◌^◌, ◌<◌}
+use Prim.Native.Nat.{ℕ, ◌+◌, ◌-◌, ◌*◌, ◌/◌, ◌%◌, ◌^◌, ◌<◌}
 use native.Mathlib.Omega.{arith}
 use lib.Dec.{eqb, lit<}
+use lib.IntN.{ℤ, pos, ◌+ℤ◌}
+use mir.Syntax.{w32}
+use mir.Val.{SFits}
 use mir.Facts.{to_z-of_z}
-use Rattle.calendar.specs.Calendar.{leap, month_days, before}
+use Rattle.number.proofs.Ranges.{rd}
+use Rattle.calendar.specs.Calendar.{leap, year_days, month_days, before}
 use Rattle.calendar.proofs.Years.{Counts, counts, by_cycle, epoch}
-use Rattle.calendar.proofs.Months.{next_before, month_0, past_12}
-use Rattle.calendar.proofs.Dates.{too_early, too_late, no_month, is_leap, number, difference}
+use Rattle.calendar.proofs.Months.{next_before}
+use Rattle.calendar.proofs.Dates.{too_late, is_leap, number, difference}
 use Rattle.calendar.proofs.days_from_ymd.Goals as goal
 
-pub returns-then-month-gt12 : goal.returns-then-month-gt12
-returns-then-month-gt12 c = no_month c.args.year c.args.month c.args.day_of_month (past_12 (leap c.args.year) c.args.month c.if-month-gt12.true)
-
-pub returns-then-month-lt1 : goal.returns-then-month-lt1
-returns-then-month-lt1 c = no_month c.args.year c.args.month c.args.day_of_month (month_0 (leap c.args.year) c.args.month c.if-month-lt1.true)
-
-pub returns-then-day_of_month-lt1 : goal.returns-then-day_of_month-lt1
-returns-then-day_of_month-lt1 c = too_early c.args.year c.args.month c.args.day_of_month c.if-day_of_month-lt1.true
+-- what the functions of the cycle ensure, said of year y of n, and of its month m, which starts after b days and the next after x
+known :
+    {y : ℤ} {n days b x : ℕ} →
+    (m : ℕ) →
+    SFits w32 y →
+    pos n ≡ rd w32 y +ℤ pos 2147484000 →
+    days ≡ year_days (pos (n % 400)) →
+    b ≡ before (eqb days 366) m →
+    x ≡ before (eqb days 366) (m + 1) →
+    Counts n y × (b ≡ before (leap y) m) × (x ≡ b + month_days (leap y) m)
+known {y} {n} {days} {b} m f told e p q =
+    let count : Counts n y = counts n y (rw (to_z-of_z f) at told) in
+    let is : eqb days 366 ≡ leap y = is_leap y n count days e in
+    let start : b ≡ before (leap y) m = rw is at p in
+    (count, start, omega (arith, start, rw is at q, next_before (leap y) m))
 
 pub overflow_sub-next : goal.overflow_sub-next
 overflow_sub-next c =
-    let in_count : Counts c.counted-n.result c.args.year = counts _ c.args.year (rw (to_z-of_z c.ranges.year) at c.counted-n.ensures.0) in
-    let leap-year : eqb c.year_of_cycle-y.result.days 366 ≡ leap c.args.year = is_leap c.args.year _ (in_count) _ c.year_of_cycle-y.ensures.1 in
-    let month-start : c.days_before-before.result ≡ before (leap c.args.year) c.args.month = rw leap-year at c.days_before-before.ensures in
-    let month : c.days_before-next.result ≡ c.days_before-before.result + month_days (leap c.args.year) c.args.month = omega (arith, month-start, rw leap-year at c.days_before-next.ensures, next_before (leap c.args.year) c.args.month) in
-    omega (arith, month)
+    let k = known c.args.month c.ranges.year c.counted-n.ensures.0 c.year_of_cycle-y.ensures.1 c.days_before-before.ensures c.days_before-next.ensures in
+    omega (arith, k.2)
 
 pub returns-then-next-before : goal.returns-then-next-before
 returns-then-next-before c =
-    let in_count : Counts c.counted-n.result c.args.year = counts _ c.args.year (rw (to_z-of_z c.ranges.year) at c.counted-n.ensures.0) in
-    let leap-year : eqb c.year_of_cycle-y.result.days 366 ≡ leap c.args.year = is_leap c.args.year _ (in_count) _ c.year_of_cycle-y.ensures.1 in
-    let month-start : c.days_before-before.result ≡ before (leap c.args.year) c.args.month = rw leap-year at c.days_before-before.ensures in
-    let month : c.days_before-next.result ≡ c.days_before-before.result + month_days (leap c.args.year) c.args.month = omega (arith, month-start, rw leap-year at c.days_before-next.ensures, next_before (leap c.args.year) c.args.month) in
-    too_late c.args.year c.args.month c.args.day_of_month (omega (arith, month, c.if-next-before.true))
-
-pub overflow_sub-result : goal.overflow_sub-result
-overflow_sub-result c =
-    let fits : c.counted-n.result / 400 * 146097 + c.year_of_cycle-y.result.start + c.days_before-before.result + (c.args.day_of_month - 1) < 2 ^ 63 = omega arith in
-    search (difference fits, rules)
+    let k = known c.args.month c.ranges.year c.counted-n.ensures.0 c.year_of_cycle-y.ensures.1 c.days_before-before.ensures c.days_before-next.ensures in
+    too_late c.args.year c.args.month c.args.day_of_month (omega (arith, k.2, c.if-next-before.true))
 
 pub returns : goal.returns
 returns c =
-    let in_count : Counts c.counted-n.result c.args.year = counts _ c.args.year (rw (to_z-of_z c.ranges.year) at c.counted-n.ensures.0) in
-    let leap-year : eqb c.year_of_cycle-y.result.days 366 ≡ leap c.args.year = is_leap c.args.year _ (in_count) _ c.year_of_cycle-y.ensures.1 in
-    let month-start : c.days_before-before.result ≡ before (leap c.args.year) c.args.month = rw leap-year at c.days_before-before.ensures in
-    let month : c.days_before-next.result ≡ c.days_before-before.result + month_days (leap c.args.year) c.args.month = omega (arith, month-start, rw leap-year at c.days_before-next.ensures, next_before (leap c.args.year) c.args.month) in
     let n = c.counted-n.result in
-    let fits : c.counted-n.result / 400 * 146097 + c.year_of_cycle-y.result.start + c.days_before-before.result + (c.args.day_of_month - 1) < 2 ^ 63 = omega arith in
+    let k = known c.args.month c.ranges.year c.counted-n.ensures.0 c.year_of_cycle-y.ensures.1 c.days_before-before.ensures c.days_before-next.ensures in
+    let fits : n / 400 * 146097 + c.year_of_cycle-y.result.start + c.days_before-before.result + (c.args.day_of_month - 1) < 2 ^ 63 = omega arith in
     rw (to_z-of_z (difference fits 784353144398 (lit< tt)))
     (search (
-      number c.args.year n (in_count) c.args.month c.args.day_of_month fits
-          (omega (arith, by_cycle n, c.year_of_cycle-y.ensures.0, month-start))
+      number c.args.year n k.0 c.args.month c.args.day_of_month fits
+          (omega (arith, by_cycle n, c.year_of_cycle-y.ensures.0, k.1))
           c.if-day_of_month-lt1.false
-          (omega (arith, month, c.if-next-before.false)),
+          (omega (arith, k.2, c.if-next-before.false)),
       epoch,
     ))

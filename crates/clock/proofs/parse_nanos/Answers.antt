@@ -1,8 +1,8 @@
 use mathlib.Core.Path.{◌≡◌, refl, sym, ◌∙◌}
 use mathlib.Core.List.{List}
-use Prim.Native.Nat.{ℕ, ◌+◌, ◌*◌, ◌-◌, ◌<◌}
+use Prim.Native.Nat.{ℕ, suc, ◌+◌, ◌*◌, ◌-◌, ◌^◌, ◌≤◌, ◌<◌}
 use native.Mathlib.Omega.{arith}
-use lib.ListN.{get_or, drop}
+use lib.ListN.{length, get_or, drop}
 use Rattle.text.specs.Digits.{digit_of, run}
 use Rattle.text.proofs.Runs.{run_digits}
 use Rattle.clock.specs.Clock.{nanos_of}
@@ -14,60 +14,48 @@ use Rattle.clock.proofs.parse_nanos.Goals as goal
 below : (s : List ℕ) → nanos_of (led s) < 1000000000
 below s = nanos_below (led s) (run_digits s)
 
+-- d is the byte b at i less 48, as Nanos has it, and the digits before i make a
+module _ (s : List ℕ) (i a : ℕ) {d b : ℕ} (fits : get_or s i 0 < 256) (here : b ≡ get_or s i 0) (e : d ≡ digit_of b) (so_far : behind (9 - i) a (led (drop i s)) ≡ nanos_of (led s)) where
+  d_is : d ≡ digit_of (get_or s i 0)
+  d_is = rw here at e
+
+  ended : 10 ≤ d → (a * 10 ^ (9 - i) ≡ nanos_of (led s)) × (run (drop i s) ≡ 0)
+  ended g = (sym (no_digit_here s i d fits d_is (9 - i) a g) ∙ so_far, ends_here s i d fits d_is g)
+
+  on : i < 9 → d < 10 → (behind (9 - (i + 1)) (a * 10 + d) (led (drop (i + 1) s)) ≡ nanos_of (led s)) × (i < length s) × (run (drop i s) ≡ suc (run (drop (i + 1) s)))
+  on l g = (sym (digit_here s i d fits d_is 9 a l g) ∙ so_far, inside s i d fits d_is g, goes_on s i d fits d_is g)
+
+  room : i < 9 → d < 10 → a * 10 + d < 1000000000
+  room l g = omega (arith, grows_behind (9 - (i + 1)) (a * 10 + d) (led (drop (i + 1) s)), (on l g).0, below s)
+
 pub loop-i-init : goal.loop-i-init
 unfolding nanos_of
 loop-i-init c = (omega arith, refl, omega arith, omega arith)
 
 pub overflow_mul-result : goal.overflow_mul-result
 overflow_mul-result c =
-    let byte_fits : get_or c.args.s.now c.loop-i.i 0 < 256 = (c.type_inv.s c.loop-i.i).fits in
-    let digit_is : c.digit-d.result ≡ digit_of (get_or c.args.s.now c.loop-i.i 0) = rw c.byte_at.ensures at c.digit-d.ensures in
-    let ended : c.loop-i.nanos * c.scale.result ≡ nanos_of (led c.args.s.now) = rw c.scale.ensures
-    (sym (no_digit_here c.args.s.now c.loop-i.i c.digit-d.result (byte_fits) (digit_is) (9 - c.loop-i.i) c.loop-i.nanos c.if-d-ge10.true) ∙ c.loop-i.invariant.1) in
-    omega (arith, ended, below c.args.s.now)
+    let e = ended c.args.s.now c.loop-i.i c.loop-i.nanos (c.type_inv.s c.loop-i.i).fits c.byte_at.ensures c.digit-d.ensures c.loop-i.invariant.1 c.if-d-ge10.true in
+    rw c.scale.ensures (omega (arith, e.0, below c.args.s.now))
 
 pub returns-then-d-ge10 : goal.returns-then-d-ge10
 returns-then-d-ge10 c =
-    let byte_fits : get_or c.args.s.now c.loop-i.i 0 < 256 = (c.type_inv.s c.loop-i.i).fits in
-    let digit_is : c.digit-d.result ≡ digit_of (get_or c.args.s.now c.loop-i.i 0) = rw c.byte_at.ensures at c.digit-d.ensures in
-    let ended : c.loop-i.nanos * c.scale.result ≡ nanos_of (led c.args.s.now) = rw c.scale.ensures
-    (sym (no_digit_here c.args.s.now c.loop-i.i c.digit-d.result (byte_fits) (digit_is) (9 - c.loop-i.i) c.loop-i.nanos c.if-d-ge10.true) ∙ c.loop-i.invariant.1) in
-    let s = c.args.s.now in
-    let r = ends_here s c.loop-i.i c.digit-d.result (byte_fits) (digit_is) c.if-d-ge10.true in
-    (ended, omega (arith, ended, below s), omega (arith, r), c.loop-i.invariant.2)
+    let e = ended c.args.s.now c.loop-i.i c.loop-i.nanos (c.type_inv.s c.loop-i.i).fits c.byte_at.ensures c.digit-d.ensures c.loop-i.invariant.1 c.if-d-ge10.true in
+    rw c.scale.ensures (e.0, omega (arith, e.0, below c.args.s.now), omega (arith, e.1), c.loop-i.invariant.2)
 
 pub overflow_mul-nanos : goal.overflow_mul-nanos
-overflow_mul-nanos c =
-    let byte_fits : get_or c.args.s.now c.loop-i.i 0 < 256 = (c.type_inv.s c.loop-i.i).fits in
-    let digit_is : c.digit-d.result ≡ digit_of (get_or c.args.s.now c.loop-i.i 0) = rw c.byte_at.ensures at c.digit-d.ensures in
-    let on : behind (9 - (c.loop-i.i + 1)) (c.loop-i.nanos * 10 + c.digit-d.result) (led (drop (c.loop-i.i + 1) c.args.s.now)) ≡ nanos_of (led c.args.s.now) = sym (digit_here c.args.s.now c.loop-i.i c.digit-d.result (byte_fits) (digit_is) 9 c.loop-i.nanos (omega arith) c.if-d-ge10.false) ∙ c.loop-i.invariant.1 in
-    let room : c.loop-i.nanos * 10 + c.digit-d.result < 1000000000 = let s = c.args.s.now in
-    omega (arith, grows_behind (9 - (c.loop-i.i + 1)) (c.loop-i.nanos * 10 + c.digit-d.result) (led (drop (c.loop-i.i + 1) s)), on, below s) in
-    omega (arith, room)
+overflow_mul-nanos c = omega (arith, room c.args.s.now c.loop-i.i c.loop-i.nanos (c.type_inv.s c.loop-i.i).fits c.byte_at.ensures c.digit-d.ensures c.loop-i.invariant.1 (omega arith) c.if-d-ge10.false)
 
 pub overflow_add-nanos : goal.overflow_add-nanos
-overflow_add-nanos c =
-    let byte_fits : get_or c.args.s.now c.loop-i.i 0 < 256 = (c.type_inv.s c.loop-i.i).fits in
-    let digit_is : c.digit-d.result ≡ digit_of (get_or c.args.s.now c.loop-i.i 0) = rw c.byte_at.ensures at c.digit-d.ensures in
-    let on : behind (9 - (c.loop-i.i + 1)) (c.loop-i.nanos * 10 + c.digit-d.result) (led (drop (c.loop-i.i + 1) c.args.s.now)) ≡ nanos_of (led c.args.s.now) = sym (digit_here c.args.s.now c.loop-i.i c.digit-d.result (byte_fits) (digit_is) 9 c.loop-i.nanos (omega arith) c.if-d-ge10.false) ∙ c.loop-i.invariant.1 in
-    let room : c.loop-i.nanos * 10 + c.digit-d.result < 1000000000 = let s = c.args.s.now in
-    omega (arith, grows_behind (9 - (c.loop-i.i + 1)) (c.loop-i.nanos * 10 + c.digit-d.result) (led (drop (c.loop-i.i + 1) s)), on, below s) in
-    omega (arith, room)
+overflow_add-nanos c = omega (arith, room c.args.s.now c.loop-i.i c.loop-i.nanos (c.type_inv.s c.loop-i.i).fits c.byte_at.ensures c.digit-d.ensures c.loop-i.invariant.1 (omega arith) c.if-d-ge10.false)
 
 pub loop-i-preserved : goal.loop-i-preserved
 loop-i-preserved c =
-    let byte_fits : get_or c.args.s.now c.loop-i.i 0 < 256 = (c.type_inv.s c.loop-i.i).fits in
-    let digit_is : c.digit-d.result ≡ digit_of (get_or c.args.s.now c.loop-i.i 0) = rw c.byte_at.ensures at c.digit-d.ensures in
-    let on : behind (9 - (c.loop-i.i + 1)) (c.loop-i.nanos * 10 + c.digit-d.result) (led (drop (c.loop-i.i + 1) c.args.s.now)) ≡ nanos_of (led c.args.s.now) = sym (digit_here c.args.s.now c.loop-i.i c.digit-d.result (byte_fits) (digit_is) 9 c.loop-i.nanos (omega arith) c.if-d-ge10.false) ∙ c.loop-i.invariant.1 in
-    let s = c.args.s.now in (
-      omega arith,
-      on,
-      omega (arith, inside s c.loop-i.i c.digit-d.result (byte_fits) (digit_is) c.if-d-ge10.false),
-      omega (arith, goes_on s c.loop-i.i c.digit-d.result (byte_fits) (digit_is) c.if-d-ge10.false),
-    )
+    let o = on c.args.s.now c.loop-i.i c.loop-i.nanos (c.type_inv.s c.loop-i.i).fits c.byte_at.ensures c.digit-d.ensures c.loop-i.invariant.1 (omega arith) c.if-d-ge10.false in
+    (omega arith, o.0, omega (arith, o.1), omega (arith, o.2))
 
 pub returns : goal.returns
-returns c = let s = c.args.s.now in
+returns c =
+    let s = c.args.s.now in
     let i = c.loop-i.i in
     let z : 9 - i ≡ 0 = omega arith in
     let n : i ≡ 9 = omega arith in
