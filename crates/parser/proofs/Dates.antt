@@ -14,41 +14,43 @@ use Rattle.text.proofs.Bools.{and_false}
 use Rattle.stamp_text.specs.Answer.{is_date, day_of}
 use Rattle.text.proofs.TwoDigits.{two_or, past_end, two_test_lem, two_is, sign_test, all_six}
 
--- century, year of it, month and day are the numbers at their places, and h and k the bytes between
-pub record DateRead (s : List ℕ) (c y h m k d : ℕ) : Type 0 where
-  pub century : c ≡ two_or s 0
-  pub year : y ≡ two_or s 2
-  pub first : h ≡ digit_of (get_or s 4 0)
-  pub month : m ≡ two_or s 5
-  pub second : k ≡ digit_of (get_or s 7 0)
-  pub day : d ≡ two_or s 8
-
 -- the code's test of the shape, in which a hyphen is 253
 abbrev pub date_test : ℕ → ℕ → ℕ → ℕ → ℕ → ℕ → Bool
 date_test c y h m k d = ltb c 100 && (ltb y 100 && (eqb h 253 && (ltb m 100 && (eqb k 253 && ltb d 100))))
 
-module _ {s : List ℕ} {c y h m k d : ℕ} (fits : (i : ℕ) → get_or s i 0 < 256) (r : DateRead s c y h m k d) where
-  shape : date_test c y h m k d ≡ is_date s
-  shape =
-      rw (
-        two_test_lem 0 s 0 r.century,
-        two_test_lem 0 s 2 r.year,
-        sign_test 0 s 4 253 0x2D (fits 4) (lit< tt) refl r.first,
-        two_test_lem 0 s 5 r.month,
-        sign_test 0 s 7 253 0x2D (fits 7) (lit< tt) refl r.second,
-        two_test_lem 0 s 8 r.day,
-      )
+-- century, year of it, month and day are the numbers at their places, and h and k the bytes between
+module _
+    (s : List ℕ)
+    {c y h m k d : ℕ}
+    (fits : (i : ℕ) → get_or s i 0 < 256)
+    (century : c ≡ two_or s 0)
+    (year : y ≡ two_or s 2)
+    (first : h ≡ digit_of (get_or s 4 0))
+    (month : m ≡ two_or s 5)
+    (second : k ≡ digit_of (get_or s 7 0))
+    (day : d ≡ two_or s 8)
+  where
+    shape : date_test c y h m k d ≡ is_date s
+    shape =
+        rw (
+          two_test_lem 0 s 0 century,
+          two_test_lem 0 s 2 year,
+          sign_test 0 s 4 253 0x2D (fits 4) (lit< tt) refl first,
+          two_test_lem 0 s 5 month,
+          sign_test 0 s 7 253 0x2D (fits 7) (lit< tt) refl second,
+          two_test_lem 0 s 8 day,
+        )
 
-  pub no_date : not (date_test c y h m k d) ≡ true → none ≡ day_of s
-  unfolding day_of
-  no_date e = rw (sym shape ∙ not-true (date_test c y h m k d) e)
+    pub no_date : not (date_test c y h m k d) ≡ true → none ≡ day_of s
+    unfolding day_of
+    no_date e = rw (sym shape ∙ not-true (date_test c y h m k d) e)
 
-  pub a_date : {z : ℤ} → z ≡ pos (c * 100 + y) → not (date_test c y h m k d) ≡ false → civil z m d ≡ day_of s
-  unfolding day_of
-  a_date q e =
-      let t : is_date s ≡ true = sym shape ∙ not-false (date_test c y h m k d) e in
-      let x = all_six (two_digits s 0) (two_digits s 2) (eqb (get_or s 4 0) 0x2D) (two_digits s 5) (eqb (get_or s 7 0) 0x2D) (two_digits s 8) t in
-      rw (q, t, two_is 0 s 0 r.century x.0, two_is 0 s 2 r.year x.1, two_is 0 s 5 r.month x.3, two_is 0 s 8 r.day x.5)
+    pub a_date : {z : ℤ} → z ≡ pos (c * 100 + y) → not (date_test c y h m k d) ≡ false → civil z m d ≡ day_of s
+    unfolding day_of
+    a_date q e =
+        let t : is_date s ≡ true = sym shape ∙ not-false (date_test c y h m k d) e in
+        let x = all_six (two_digits s 0) (two_digits s 2) (eqb (get_or s 4 0) 0x2D) (two_digits s 5) (eqb (get_or s 7 0) 0x2D) (two_digits s 8) t in
+        rw (q, t, two_is 0 s 0 century x.0, two_is 0 s 2 year x.1, two_is 0 s 5 month x.3, two_is 0 s 8 day x.5)
 
 -- cut short
 pub short_of_date : (s : List ℕ) → length s < 10 → none ≡ day_of s

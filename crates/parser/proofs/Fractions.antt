@@ -22,21 +22,15 @@ with_tail t none = none
 with_tail t (some n) = some (record { nanos = n; tail = t })
 
 pub timed_at_lem :
-    (h m s n : ℕ) (t : List ℕ) → n < 1000000000 →
-    with_tail t (cond (in_range h m s && ltb n 1000000000) (some (((h * 60 + m) * 60 + s) * 1000000000 + n)) none) ≡ timed_at h m s n t
-timed_at_lem h m s n t l = rw (lt-ltb n 1000000000 l) (by_test (in_range h m s) (λ e. rw e) (λ e. rw e))
+    (h m s n : ℕ) (t : List ℕ) → n < 1000000000 → {o : Option ℕ} →
+    o ≡ cond (in_range h m s && ltb n 1000000000) (some (((h * 60 + m) * 60 + s) * 1000000000 + n)) none → with_tail t o ≡ timed_at h m s n t
+timed_at_lem h m s n t l q = rw (q, lt-ltb n 1000000000 l) (by_test (in_range h m s) (λ e. rw e) (λ e. rw e))
 
--- ---- d is byte 19 less 48; a point is 254
+-- ---- d is b, which is byte 19, less 48; a point is 254
 
-module _ (s : List ℕ) {d : ℕ} (fits : (i : ℕ) → get_or s i 0 < 256) (e : d ≡ digit_of (get_or s 19 0)) where
+module _ (s : List ℕ) {b d : ℕ} (fits : (i : ℕ) → get_or s i 0 < 256) (e : d ≡ digit_of b) (byte_19 : b ≡ get_or s 19 0) where
   point_test : eqb d 254 ≡ eqb (get_or (drop 19 s) 0 0) 0x2E
-  point_test = sign_test 19 s 0 254 0x2E (fits 19) (lit< tt) refl e
-
-  pub point_inside : d ≡ 254 → 20 ≤ length s
-  point_inside p =
-      by_test (ltb 19 (length s))
-      (λ t. omega (arith, ltb-true 19 (length s) t))
-      (λ t. absurd (omega (arith, get_or-eq_default s 0 {n = 19} (ltb-false 19 (length s) t))))
+  point_test = sign_test 19 s 0 254 0x2E (fits 19) (lit< tt) refl (e ∙ ap digit_of byte_19)
 
   module _ (h m x : ℕ) where
     pub no_point : (d ≡ 254 → ⊥) → timed_at h m x 0 (drop 19 s) ≡ after_seconds h m x (drop 19 s)

@@ -19,7 +19,8 @@ use Rattle.time.specs.Answer.{time_nanos}
 use Rattle.time.proofs.Bounds.{OfDay, read_most}
 use Rattle.refusal.proofs.Outcomes.{clash}
 use Rattle.time_column.specs.Answer.{on_integer, as_integer, time_column}
-use Rattle.time_column.specs.Found.{Fits}
+use Rattle.time_column.specs.declared.Found.{Found}
+use Rattle.time_column.specs.Found.{found_is, Finds, Fits}
 
 -- a column of that many bits whose unit is k nanoseconds
 module _ (k bits : ℕ) (some_unit : 1 ≤ k) (room : 86401000000000 < 2 ^ (bits - 1) * k) where
@@ -50,5 +51,5 @@ module _ (k bits : ℕ) (some_unit : 1 ≤ k) (room : 86401000000000 < 2 ^ (bits
       either (divided k (time_nanos t)) (or_else (as_integer bits t) (divided k (time_nanos (trimmed t)))) (in_units t)
       (either (as_integer bits t) (divided k (time_nanos (trimmed t))) (kept (numeral true t)) (in_units (trimmed t)))
 
-  pub told_fits : (t : List ℕ) {o : Outcome ℤ} → o ≡ time_column k bits t → Fits bits o
-  told_fits t e z q = column_fits t z (sym e ∙ q)
+  pub told_fits : (t : List ℕ) (f : Found) {o : Outcome ℤ} → o ≡ found_is k f → Finds f (λ i. time_column i bits t) → Fits bits o
+  told_fits t f e found z q = column_fits t z (sym (e ∙ found k) ∙ q)

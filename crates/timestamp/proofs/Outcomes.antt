@@ -13,7 +13,7 @@ use Rattle.refusal.specs.Outcome.{Outcome, accepted, refused, and_then}
 use Rattle.refusal.proofs.Outcomes.{or_range}
 use Rattle.text.specs.Digits.{digit_of}
 use Rattle.text.proofs.Bools.{by_test}
-use Rattle.stamp_text.specs.Answer.{day_of, time_of, is_separator, after_date, on_time, on_date, plain_moment, in_nanos}
+use Rattle.stamp_text.specs.Answer.{Timed, day_of, time_of, is_separator, after_date, on_time, on_date, plain_moment, in_nanos}
 use Rattle.datetime.specs.Moment.{Moment, moment, instant}
 use Rattle.text.proofs.TwoDigits.{sign_test}
 
@@ -39,8 +39,8 @@ module _ (s : List ℕ) (z : ℤ) where
     pub not_separated : not (separator_test d) ≡ true → refused 3 ≡ after_date s z
     not_separated h = rw (ne_eqb (length s) 10 longer, sym separator ∙ not-true (separator_test d) h)
 
-    pub separated : not (separator_test d) ≡ false → on_time z (time_of (drop 11 s)) ≡ after_date s z
-    separated h = rw (ne_eqb (length s) 10 longer, sym separator ∙ not-false (separator_test d) h)
+    pub separated : not (separator_test d) ≡ false → {o : Option Timed} → o ≡ time_of (drop 11 s) → on_time z o ≡ after_date s z
+    separated h q = rw (ne_eqb (length s) 10 longer, sym separator ∙ not-false (separator_test d) h, q)
 
 -- ---- of a text s
 

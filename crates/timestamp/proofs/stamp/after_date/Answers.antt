@@ -1,8 +1,6 @@
 -- `timestamp::stamp::after_date` meets its contract, by the laws of what follows a date. Assumes nothing.
-use mathlib.Core.Path.{◌≡◌, sym, ap, ◌∙◌}
+use mathlib.Core.Path.{sym, ap, ◌∙◌}
 use mir.Facts.{to_z-of_z}
-use Rattle.parser.specs.declared.TimeAndEnd.{TimeAndEnd}
-use Rattle.stamp_text.specs.Answer.{on_time, after_date}
 use Rattle.parser.specs.Read.{ends_at}
 use Rattle.timestamp.proofs.Outcomes.{midnight, not_separated, separated}
 use Rattle.timestamp.proofs.stamp.after_date.Goals as goal
@@ -15,14 +13,12 @@ returns-then-not-separator c = not_separated c.args.s.now c.args.day c.if-s-eq10
 
 pub returns-in-At : goal.returns-in-At
 returns-in-At c =
-    let onward : (r : TimeAndEnd) → c.time.result ≡ r → on_time c.args.day (ends_at c.args.s.now r) ≡ after_date c.args.s.now c.args.day = λ _ q. ap (on_time c.args.day) (sym (ap (ends_at c.args.s.now) q) ∙ c.time.ensures) ∙
-    separated c.args.s.now c.args.day c.if-s-eq10.false (c.type_inv.s 10).fits c.digit-b.ensures
-    c.if-not-separator.false-raw in
-    c.at_end.ensures ∙ rw (to_z-of_z c.ranges.day) (onward _ c.in-At.is)
+    c.at_end.ensures ∙
+    rw (to_z-of_z c.ranges.day)
+    (separated c.args.s.now c.args.day c.if-s-eq10.false (c.type_inv.s 10).fits c.digit-b.ensures c.if-not-separator.false-raw
+    (sym (ap (ends_at c.args.s.now) c.in-At.is) ∙ c.time.ensures))
 
 pub returns-in-None : goal.returns-in-None
 returns-in-None c =
-    let onward : (r : TimeAndEnd) → c.time.result ≡ r → on_time c.args.day (ends_at c.args.s.now r) ≡ after_date c.args.s.now c.args.day = λ _ q. ap (on_time c.args.day) (sym (ap (ends_at c.args.s.now) q) ∙ c.time.ensures) ∙
-    separated c.args.s.now c.args.day c.if-s-eq10.false (c.type_inv.s 10).fits c.digit-b.ensures
-    c.if-not-separator.false-raw in
-    onward _ c.in-None.is
+    separated c.args.s.now c.args.day c.if-s-eq10.false (c.type_inv.s 10).fits c.digit-b.ensures c.if-not-separator.false-raw
+    (sym (ap (ends_at c.args.s.now) c.in-None.is) ∙ c.time.ensures)
