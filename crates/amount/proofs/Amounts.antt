@@ -2,7 +2,8 @@
 use mathlib.Core.Path.{◌≡◌, refl, sym, ap, ◌∙◌}
 use mathlib.Core.Bool.{Bool, true, false, cond}
 use mathlib.Core.List.{List, [], ◌∷◌}
-use mathlib.Core.Option.{none, some, none-ne-some}
+use Rattle.std.specs.Prelude.{None, Some}
+use mathlib.Core.Option.{none-ne-some}
 use Prim.Native.Nat.{ℕ, zero, suc, ◌+◌, ◌-◌, ◌*◌, ◌^◌, ◌≤◌, ◌<◌, min}
 use native.Mathlib.Nat.{add-zero}
 use native.Mathlib.Numerals.{add-one}
@@ -83,12 +84,12 @@ size_over false m h = le-ltb m 9_223_372_036_854_775_808 (omega arith)
 -- m is the number v, or the cap where it is more
 module _ (neg : Bool) (v : ℕ) {m : ℕ} (e : m ≡ min v cap) where
   -- it fits, as z, which the machine reads back
-  pub whole_fits_lem : {z : ℤ} → some z ≡ fit 63 (signed neg m) → (rd w64 z ≡ signed neg v) × (whole_fits neg v ≡ true)
+  pub whole_fits_lem : {z : ℤ} → Some z ≡ fit 63 (signed neg m) → (rd w64 z ≡ signed neg v) × (whole_fits neg v ≡ true)
   unfolding whole_fits
   whole_fits_lem {z} h =
       by_test (in_signed 63 (signed neg m))
       (λ f.
-      let q : some z ≡ some (signed neg m) = h ∙ rw f in
+      let q : Some z ≡ Some (signed neg m) = h ∙ rw f in
       let p : m ≡ v = omega (arith, fits_size neg m f) in
       let g : in_signed 63 (signed neg v) ≡ true = rw p at f in
       let r : z ≡ signed neg v = rw p at (some_is q) in
@@ -96,11 +97,11 @@ module _ (neg : Bool) (v : ℕ) {m : ℕ} (e : m ≡ min v cap) where
       (rw (r, to_z-of_z t), g))
       (λ f. absurd (none-ne-some z (sym (h ∙ rw f))))
     where
-      some_is : {x y : ℤ} → some x ≡ some y → x ≡ y
+      some_is : {x y : ℤ} → Some x ≡ Some y → x ≡ y
       some_is r = cc
 
   -- or it does not
-  pub whole_over : none ≡ fit 63 (signed neg m) → whole_fits neg v ≡ false
+  pub whole_over : None ≡ fit 63 (signed neg m) → whole_fits neg v ≡ false
   unfolding whole_fits
   whole_over h =
       by_test (in_signed 63 (signed neg m))

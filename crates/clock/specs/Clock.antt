@@ -1,7 +1,6 @@
 -- A time of day as a text writes it (RFC 3339, sections 5.6 and 5.7; ISO 8601). Document 01 widens the RFC: second 60 in any minute, and
 -- any number of fraction digits, of which nine count. Assumes nothing.
-use Rattle.std.specs.Prelude.{Bool, ◌&&◌, List, ℕ, ◌+◌, ◌-◌, ◌*◌, ◌^◌, leb, length, take}
-use Rattle.std.proofs.Math.Option.{Option, none, some}
+use Rattle.std.specs.Prelude.{Bool, ◌&&◌, List, ℕ, ◌+◌, ◌-◌, ◌*◌, ◌^◌, leb, length, take, Option, None, Some}
 use Rattle.text.specs.Digits.{value}
 use Rattle.clock.specs.declared.NaiveTime.{NaiveTime}
 use Rattle.clock.specs.declared.Time.{Time}
@@ -36,5 +35,5 @@ nanos_of_day t = t.secs * 1000000000 + t.frac
 
 -- what an answer of the code says, if it holds a time
 abbrev pub time_is : Time → Option ℕ
-time_is (At t) = some (nanos_of_day t)
-time_is None = none
+time_is (At t) = Some (nanos_of_day t)
+time_is None = None

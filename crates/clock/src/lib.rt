@@ -1,8 +1,7 @@
 // Times of day of the clock: their fields, and the digits of a fraction.
 #![tactic(auto)]
 
-ghost use Rattle.std.specs.Prelude.{◌≡◌, cond, ◌&&◌, ◌+◌, ◌-◌, ◌*◌, ◌^◌, ◌≤◌, ◌<◌, ltb, length, take};
-ghost use Rattle.std.proofs.Math.Option.{none, some};
+ghost use Rattle.std.specs.Prelude.{◌≡◌, cond, ◌&&◌, ◌+◌, ◌-◌, ◌*◌, ◌^◌, ◌≤◌, ◌<◌, ltb, length, take, None, Some};
 ghost use Rattle.text.specs.Digits.{run};
 ghost use Rattle.clock.specs.Clock.{in_range, nanos_of, time_is};
 
@@ -71,7 +70,7 @@ fn scale(i: usize) -> u32
 
 // chrono's `NaiveTime::from_hms_nano_opt`, with second 60 held as second 59 and 1,000,000,000 more nanoseconds.
 pub fn from_hms_nano(hour: u8, min: u8, sec: u8, nano: u32) -> Time
-    ensures { time_is result ≡ cond (in_range hour min sec && ltb nano 1000000000) (some (((hour * 60 + min) * 60 + sec) * 1000000000 + nano)) none }
+    ensures { time_is result ≡ cond (in_range hour min sec && ltb nano 1000000000) (Some (((hour * 60 + min) * 60 + sec) * 1000000000 + nano)) None }
 {
     let fits = (hour <= 23) & ((min <= 59) & (sec <= 60)) & (nano < 1_000_000_000);
     if !fits {

@@ -1,7 +1,6 @@
 -- What the answer of `component` says: the component at a place of a text, and where a reader goes on from there. The limit n is the most
 -- digits behind a point. Assumes nothing.
-use Rattle.std.specs.Prelude.{◌≡◌, List, ℕ, ◌+◌, ◌-◌, ◌^◌, ◌≤◌, ◌<◌, nat_abs, length, drop}
-use Rattle.std.proofs.Math.Option.{Option, some}
+use Rattle.std.specs.Prelude.{◌≡◌, List, ℕ, ◌+◌, ◌-◌, ◌^◌, ◌≤◌, ◌<◌, nat_abs, length, drop, Option, Some}
 use Rattle.unit.specs.Units.{or_else}
 use Rattle.unit.specs.Read.{unit_read}
 use Rattle.component.specs.Grammar.{Component}
@@ -35,7 +34,7 @@ pub record MoreIs (n : ℕ) (s : List ℕ) (at : ℕ) (a : IntervalAmount) (u : 
   pub stepped : step n (drop at s) ≡ go this (x - at)
   pub further : at < x
   pub inside : x ≤ length s
-  pub holds : Holds n this a (some u)
+  pub holds : Holds n this a (Some u)
 
 -- what stands at a place: no component, and where it cannot be read; a last one; or one more
 unfoldable pub piece_is : ℕ → List ℕ → ℕ → Piece → Type 0

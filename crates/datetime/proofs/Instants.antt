@@ -1,7 +1,7 @@
 -- Instants: seconds and nanoseconds, by the size of the seconds, and the seconds of a day and a time of it. Assumes nothing.
 use mathlib.Core.Path.{◌≡◌}
 use mathlib.Core.Bool.{true, false}
-use mathlib.Core.Option.{none}
+use Rattle.std.specs.Prelude.{None}
 use Prim.Native.Nat.{ℕ, ◌+◌, ◌-◌, ◌*◌, ◌^◌, ◌≤◌, ◌<◌}
 use native.Mathlib.Omega.{arith}
 use lib.IntN.{ℤ, pos, negsuc, neg_ℤ, nat_abs, ◌+ℤ◌, ◌*ℤ◌}
@@ -26,10 +26,10 @@ module _ {z : ℤ} (f : SFits w64 z) (p : ℕ) {m : ℕ} (e : m ≡ nat_abs (rd 
   size : m ≡ nat_abs z
   size = rw (to_z-of_z f) at e
 
-  pub too_far : p < 2 ^ 32 → 9300000000 < m → none ≡ fit 63 (in_all z p)
+  pub too_far : p < 2 ^ 32 → 9300000000 < m → None ≡ fit 63 (in_all z p)
   too_far hp h = by z size
     where
-      by : (z : ℤ) → m ≡ nat_abs z → none ≡ fit 63 (in_all z p)
+      by : (z : ℤ) → m ≡ nat_abs z → None ≡ fit 63 (in_all z p)
       by (pos a) q = fit_above w64 (in_all (pos a) p) (omega arith)
       by (negsuc a) q = fit_below w64 (in_all (negsuc a) p) (omega (arith, sum_of (negsuc a) 1000000000 p))
 

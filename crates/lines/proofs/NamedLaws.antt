@@ -2,7 +2,7 @@
 use mathlib.Core.Path.{◌≡◌}
 use mathlib.Core.Bool.{Bool, true, false, ◌&&◌}
 use mathlib.Core.List.{List}
-use mathlib.Core.Option.{none}
+use Rattle.std.specs.Prelude.{None}
 use Prim.Native.Nat.{ℕ, ◌<◌}
 use native.Mathlib.Omega.{arith}
 use lib.Dec.{eqb}
@@ -19,11 +19,11 @@ module _ (n : List ℕ) where
   unfolding unit_named
   named e = rw e
 
-  pub unnamed : begins ≡ false → none ≡ unit_named n
+  pub unnamed : begins ≡ false → None ≡ unit_named n
   unfolding unit_named
   unnamed e = rw e
 
-  pub too_short : length n < 3 → none ≡ unit_named n
+  pub too_short : length n < 3 → None ≡ unit_named n
   too_short h =
       let q : get_or n 2 0 ≡ 0 = get_or-eq_default n 0 (omega arith) in
       unnamed (rw (q, and_false (eqb (get_or n 0 0) 0x69 && eqb (get_or n 1 0) 0x6E)))

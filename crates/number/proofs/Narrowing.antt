@@ -1,7 +1,7 @@
 -- A signed number as one of another width, signed or not, and sums and products at a larger width, where they fit. Assumes nothing.
 use mathlib.Core.Path.{◌≡◌, refl}
 use mathlib.Core.Bool.{true, false}
-use mathlib.Core.Option.{none, some}
+use Rattle.std.specs.Prelude.{None, Some}
 use Prim.Native.Nat.{ℕ, suc, ◌+◌, ◌-◌, ◌*◌, ◌^◌, ◌≤◌, ◌<◌}
 use native.Mathlib.Omega.{arith}
 use native.Mathlib.Nat.{mul-le-mul, two-pow-succ}
@@ -20,10 +20,10 @@ use Rattle.number.proofs.Ranges.{rd, top, bottom, fit_yes, fit_above, fit_below}
 -- ---- a number x of width w as one of the signed width v
 
 module _ {w : Width} {x : ℤ} (f : SFits w x) (v : Width) where
-  pub narrow_below : lt_z (rd w x) (bottom v) ≡ true → none ≡ fit (hbits v) x
+  pub narrow_below : lt_z (rd w x) (bottom v) ≡ true → None ≡ fit (hbits v) x
   narrow_below = rw (to_z-of_z f) (λ t. fit_below v x (omega (arith, lt_yes x (bottom v) t, pow_pos (hbits v))))
 
-  pub narrow_above : lt_z (top v) (rd w x) ≡ true → none ≡ fit (hbits v) x
+  pub narrow_above : lt_z (top v) (rd w x) ≡ true → None ≡ fit (hbits v) x
   narrow_above = rw (to_z-of_z f) (λ t. fit_above v x (omega (arith, lt_yes (top v) x t, pow_pos (hbits v))))
 
   within : lt_z x (bottom v) ≡ false → lt_z (top v) x ≡ false → SFits v x
@@ -32,20 +32,20 @@ module _ {w : Width} {x : ℤ} (f : SFits w x) (v : Width) where
   pub narrow_fits : lt_z (rd w x) (bottom v) ≡ false → lt_z (top v) (rd w x) ≡ false → SFits v (rd w x)
   narrow_fits = rw (to_z-of_z f) within
 
-  pub narrowed : lt_z (rd w x) (bottom v) ≡ false → lt_z (top v) (rd w x) ≡ false → some (rd v (rd w x)) ≡ fit (hbits v) x
+  pub narrowed : lt_z (rd w x) (bottom v) ≡ false → lt_z (top v) (rd w x) ≡ false → Some (rd v (rd w x)) ≡ fit (hbits v) x
   narrowed = rw (to_z-of_z f) (λ t u. fit_yes (within t u))
 
 -- ---- and as one of the unsigned width v
 
-nat_under : (k : ℕ) (x : ℤ) → lt_z x (pos 0) ≡ true → none ≡ fit_unsigned k x
+nat_under : (k : ℕ) (x : ℤ) → lt_z x (pos 0) ≡ true → None ≡ fit_unsigned k x
 nat_under k (pos n) t = absurd (omega (arith, lt_yes (pos n) (pos 0) t))
 nat_under k (negsuc n) t = refl
 
-nat_over : (k : ℕ) (x : ℤ) → lt_z (pos (2 ^ k - 1)) x ≡ true → none ≡ fit_unsigned k x
+nat_over : (k : ℕ) (x : ℤ) → lt_z (pos (2 ^ k - 1)) x ≡ true → None ≡ fit_unsigned k x
 nat_over k (pos n) t = rw (le-ltb n (2 ^ k) (omega (arith, lt_yes (pos (2 ^ k - 1)) (pos n) t)))
 nat_over k (negsuc n) t = refl
 
-nat_in : (v : Width) (x : ℤ) → lt_z x (pos 0) ≡ false → lt_z (pos (2 ^ bits v - 1)) x ≡ false → (T (non_neg x) × Fits v (nat_abs x)) × (some (pos (nat_abs x)) ≡ fit_unsigned (bits v) x)
+nat_in : (v : Width) (x : ℤ) → lt_z x (pos 0) ≡ false → lt_z (pos (2 ^ bits v - 1)) x ≡ false → (T (non_neg x) × Fits v (nat_abs x)) × (Some (pos (nat_abs x)) ≡ fit_unsigned (bits v) x)
 nat_in v (pos n) t u = ((tt, record { fits = less }), rw (lt-ltb n (2 ^ bits v) less))
   where
     less : n < 2 ^ bits v
@@ -53,16 +53,16 @@ nat_in v (pos n) t u = ((tt, record { fits = less }), rw (lt-ltb n (2 ^ bits v) 
 nat_in v (negsuc n) t u = absurd (omega (arith, lt_no (negsuc n) (pos 0) t))
 
 module _ {w : Width} {x : ℤ} (f : SFits w x) (v : Width) where
-  pub nat_below : lt_z (rd w x) (pos 0) ≡ true → none ≡ fit_unsigned (bits v) x
+  pub nat_below : lt_z (rd w x) (pos 0) ≡ true → None ≡ fit_unsigned (bits v) x
   nat_below = rw (to_z-of_z f) (nat_under (bits v) x)
 
-  pub nat_above : lt_z (pos (2 ^ bits v - 1)) (rd w x) ≡ true → none ≡ fit_unsigned (bits v) x
+  pub nat_above : lt_z (pos (2 ^ bits v - 1)) (rd w x) ≡ true → None ≡ fit_unsigned (bits v) x
   nat_above = rw (to_z-of_z f) (nat_over (bits v) x)
 
   pub nat_cast : lt_z (rd w x) (pos 0) ≡ false → lt_z (pos (2 ^ bits v - 1)) (rd w x) ≡ false → T (non_neg (rd w x)) × Fits v (nat_abs (rd w x))
   nat_cast = rw (to_z-of_z f) (λ t u. (nat_in v x t u).0)
 
-  pub nat_narrowed : lt_z (rd w x) (pos 0) ≡ false → lt_z (pos (2 ^ bits v - 1)) (rd w x) ≡ false → some (pos (nat_abs (rd w x))) ≡ fit_unsigned (bits v) x
+  pub nat_narrowed : lt_z (rd w x) (pos 0) ≡ false → lt_z (pos (2 ^ bits v - 1)) (rd w x) ≡ false → Some (pos (nat_abs (rd w x))) ≡ fit_unsigned (bits v) x
   nat_narrowed = rw (to_z-of_z f) (λ t u. (nat_in v x t u).1)
 
 -- ---- a number z of width w that fits the signed width v too, as it is cast to v

@@ -1,7 +1,7 @@
 -- Sign and size of a signed number, at any width. Assumes nothing.
 use mathlib.Core.Path.{◌≡◌}
 use mathlib.Core.Bool.{Bool, true, false}
-use mathlib.Core.Option.{none, some}
+use Rattle.std.specs.Prelude.{None, Some}
 use Prim.Native.Nat.{ℕ, ◌+◌, ◌-◌, ◌^◌, ◌≤◌, ◌<◌}
 use native.Mathlib.Omega.{arith}
 use lib.Dec.{T}
@@ -61,21 +61,21 @@ module _ (w : Width) (m : ℕ) where
   pub down_fits : m - 1 ≤ 2 ^ hbits w - 1 → SFits w (negsuc 0 -ℤ to_z w (m - 1))
   down_fits h = rw (to_z_pos w {n = m - 1} (omega (arith, pow_pos (hbits w))), minus_one (m - 1)) (record { sfits = omega (arith, pow_pos (hbits w)) })
 
-  pub down : (m ≡ 0 → ⊥) → m - 1 ≤ 2 ^ hbits w - 1 → some (rd w (negsuc 0 -ℤ to_z w (m - 1))) ≡ fit (hbits w) (signed true m)
+  pub down : (m ≡ 0 → ⊥) → m - 1 ≤ 2 ^ hbits w - 1 → Some (rd w (negsuc 0 -ℤ to_z w (m - 1))) ≡ fit (hbits w) (signed true m)
   down z h =
       rw (to_z_pos w {n = m - 1} (omega (arith, pow_pos (hbits w))), minus_one (m - 1), minus_size m z)
       (fit_yes {w = w} {z = negsuc (m - 1)} (record { sfits = omega (arith, pow_pos (hbits w)) }))
 
-  pub down_over : (m ≡ 0 → ⊥) → 2 ^ hbits w - 1 < m - 1 → none ≡ fit (hbits w) (signed true m)
+  pub down_over : (m ≡ 0 → ⊥) → 2 ^ hbits w - 1 < m - 1 → None ≡ fit (hbits w) (signed true m)
   down_over z h = rw (minus_size m z, le-ltb (m - 1) (2 ^ hbits w) (omega arith))
 
-  pub up : m ≤ 2 ^ hbits w - 1 → some (to_z w m) ≡ fit (hbits w) (signed false m)
+  pub up : m ≤ 2 ^ hbits w - 1 → Some (to_z w m) ≡ fit (hbits w) (signed false m)
   up h = fit_yes {w = w} {z = pos m} (record { sfits = omega (arith, pow_pos (hbits w)) })
 
-  pub up_over : 2 ^ hbits w - 1 < m → none ≡ fit (hbits w) (signed false m)
+  pub up_over : 2 ^ hbits w - 1 < m → None ≡ fit (hbits w) (signed false m)
   up_over h = rw (le-ltb m (2 ^ hbits w) (omega arith))
 
   -- a size above that of the least number fits with no sign
-  pub too_large : (neg : Bool) → 2 ^ hbits w < m → none ≡ fit (hbits w) (signed neg m)
+  pub too_large : (neg : Bool) → 2 ^ hbits w < m → None ≡ fit (hbits w) (signed neg m)
   too_large true h = down_over (omega arith) (omega (arith, pow_pos (hbits w)))
   too_large false h = up_over (omega arith)

@@ -2,7 +2,7 @@
 use mathlib.Core.Path.{◌≡◌, refl, sym, ◌∙◌}
 use mathlib.Core.Bool.{Bool, true, false, not, ◌&&◌}
 use mathlib.Core.List.{List}
-use mathlib.Core.Option.{none}
+use Rattle.std.specs.Prelude.{None}
 use Prim.Native.Nat.{ℕ, ◌+◌, ◌*◌, ◌<◌}
 use lib.Dec.{ltb, eqb, lit<}
 use lib.ListN.{get_or, length}
@@ -41,7 +41,7 @@ module _
           two_test_lem 0 s 8 day,
         )
 
-    pub no_date : not (date_test c y h m k d) ≡ true → none ≡ day_of s
+    pub no_date : not (date_test c y h m k d) ≡ true → None ≡ day_of s
     unfolding day_of
     no_date e = rw (sym shape ∙ not-true (date_test c y h m k d) e)
 
@@ -53,6 +53,6 @@ module _
         rw (q, t, two_is 0 s 0 century x.0, two_is 0 s 2 year x.1, two_is 0 s 5 month x.3, two_is 0 s 8 day x.5)
 
 -- cut short
-pub short_of_date : (s : List ℕ) → length s < 10 → none ≡ day_of s
+pub short_of_date : (s : List ℕ) → length s < 10 → None ≡ day_of s
 unfolding day_of
 short_of_date s h = simp (past_end s 8 h, and_false)

@@ -2,7 +2,7 @@
 use mathlib.Core.Path.{◌≡◌, refl, sym, ap, ◌∙◌}
 use mathlib.Core.Bool.{cond, ◌&&◌}
 use mathlib.Core.List.{List}
-use mathlib.Core.Option.{Option, none, some}
+use Rattle.std.specs.Prelude.{Option, None, Some}
 use Prim.Native.Nat.{ℕ, ◌+◌, ◌*◌, ◌≤◌, ◌<◌}
 use native.Mathlib.Omega.{arith}
 use lib.Dec.{ltb, eqb, lit<}
@@ -18,12 +18,12 @@ use Rattle.text.proofs.TwoDigits.{sign_test}
 -- ---- a time and the bytes after it
 
 abbrev pub with_tail : List ℕ → Option ℕ → Option Timed
-with_tail t none = none
-with_tail t (some n) = some (record { nanos = n; tail = t })
+with_tail t None = None
+with_tail t (Some n) = Some (record { nanos = n; tail = t })
 
 pub timed_at_lem :
     (h m s n : ℕ) (t : List ℕ) → n < 1000000000 → {o : Option ℕ} →
-    o ≡ cond (in_range h m s && ltb n 1000000000) (some (((h * 60 + m) * 60 + s) * 1000000000 + n)) none → with_tail t o ≡ timed_at h m s n t
+    o ≡ cond (in_range h m s && ltb n 1000000000) (Some (((h * 60 + m) * 60 + s) * 1000000000 + n)) None → with_tail t o ≡ timed_at h m s n t
 timed_at_lem h m s n t l q = rw (q, lt-ltb n 1000000000 l) (by_test (in_range h m s) (λ e. rw e) (λ e. rw e))
 
 -- ---- d is b, which is byte 19, less 48; a point is 254
@@ -37,7 +37,7 @@ module _ (s : List ℕ) {b d : ℕ} (fits : (i : ℕ) → get_or s i 0 < 256) (e
     unfolding nanos_of value
     no_point p = rw (sym point_test ∙ ne_eqb d 254 p)
 
-    pub point_alone : d ≡ 254 → run (drop 20 s) ≡ 0 → none ≡ after_seconds h m x (drop 19 s)
+    pub point_alone : d ≡ 254 → run (drop 20 s) ≡ 0 → None ≡ after_seconds h m x (drop 19 s)
     point_alone p z = rw (sym point_test ∙ eq-eqb d 254 p, drop-drop 1 19 s, z)
 
     pub fraction :

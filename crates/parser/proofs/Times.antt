@@ -2,7 +2,7 @@
 use mathlib.Core.Path.{◌≡◌, refl, sym, ap, ◌∙◌}
 use mathlib.Core.Bool.{Bool, true, false, not, ◌&&◌}
 use mathlib.Core.List.{List}
-use mathlib.Core.Option.{none}
+use Rattle.std.specs.Prelude.{None}
 use Prim.Native.Nat.{ℕ, ◌<◌}
 use native.Mathlib.Omega.{arith}
 use lib.Dec.{ltb, leb, eqb, lit<}
@@ -92,7 +92,7 @@ module _
           digit_test 11 s 7 (fits 18) (after ∙ ap digit_of byte_18),
         )
 
-    pub no_time : not (basic_test h m x a b) ≡ true → none ≡ basic_time (drop 11 s)
+    pub no_time : not (basic_test h m x a b) ≡ true → None ≡ basic_time (drop 11 s)
     no_time e = rw (sym basics ∙ not-true (basic_test h m x a b) e)
 
     pub without_colons : not (basic_test h m x a b) ≡ false → timed_at h m x 0 (drop 17 s) ≡ basic_time (drop 11 s)
@@ -115,8 +115,8 @@ module _ (s : List ℕ) where
   short_of_colons h = rw (cut_short h)
 
   -- and none without colons
-  basic_cut : length s < 17 → none ≡ basic_time (drop 11 s)
+  basic_cut : length s < 17 → None ≡ basic_time (drop 11 s)
   basic_cut h = simp (past_end (drop 11 s) 4 (omega (arith, length-drop 11 s)), and_false)
 
-  pub short_of_time : length s < 17 → none ≡ time_of (drop 11 s)
+  pub short_of_time : length s < 17 → None ≡ time_of (drop 11 s)
   short_of_time h = basic_cut h ∙ short_of_colons (omega arith)

@@ -1,8 +1,7 @@
 // Why an interval text is refused, and where.
 #![tactic(auto)]
 
-ghost use Rattle.std.specs.Prelude.{◌≡◌, cond};
-ghost use Rattle.std.proofs.Math.Option.{none, some};
+ghost use Rattle.std.specs.Prelude.{◌≡◌, cond, None, Some};
 ghost use Rattle.refusal.specs.Outcome.{number_of, number_in};
 ghost use Rattle.utf8.specs.Utf8.{utf8};
 ghost use Rattle.place.specs.Read.{refusal_of, place_in, maybe_place};
@@ -67,7 +66,7 @@ impl IntervalRefusal {
 
     // A text without a division, whose first bad piece begins at a place: that its bytes are no UTF-8 comes first, and has no place.
     pub fn bad_piece(text: &[u8], place: usize) -> IntervalRefusal
-        ensures { (number_of (refusal_of result) ≡ number_in text.now 8) × (place_in result ≡ cond (utf8 text.now) (some place) none) }
+        ensures { (number_of (refusal_of result) ≡ number_in text.now 8) × (place_in result ≡ cond (utf8 text.now) (Some place) None) }
     {
         if utf8::is_utf8(text) {
             IntervalRefusal::Interval(place)

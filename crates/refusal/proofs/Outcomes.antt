@@ -2,7 +2,7 @@
 -- another, of a text as given and trimmed, divided by a unit. Assumes nothing.
 use mathlib.Core.Path.{◌≡◌, refl, sym, ap, ◌∙◌}
 use mathlib.Core.List.{List}
-use mathlib.Core.Option.{Option, none, some}
+use Rattle.std.specs.Prelude.{Option, None, Some}
 use Prim.Native.Nat.{ℕ, suc}
 use native.Mathlib.Nat.{div-one}
 use native.Mathlib.Omega.{arith}
@@ -30,8 +30,8 @@ refused_in s e q = rw (e, ← q) (by_test (utf8 s) (λ t. rw t) (λ t. rw t))
 
 -- a number, or refusal 6 where there is none
 abbrev pub or_range : Option ℤ → Outcome ℤ
-or_range none = refused 6
-or_range (some z) = accepted z
+or_range None = refused 6
+or_range (Some z) = accepted z
 
 -- ---- a value, as a local reads it back
 

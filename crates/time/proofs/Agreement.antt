@@ -4,7 +4,7 @@ use mathlib.Core.Path.{◌≡◌, refl, sym, ap, ◌∙◌, subst}
 use mathlib.Core.Bool.{Bool, true, false, cond, ◌&&◌}
 use mathlib.Core.Logic.{inr, ⊎_elim, ◌↔◌}
 use mathlib.Core.List.{List, [], ◌∷◌, ◌++◌}
-use mathlib.Core.Option.{Option, none, some}
+use Rattle.std.specs.Prelude.{Option, None, Some}
 use Prim.Native.Nat.{ℕ, suc, ◌+◌, ◌-◌, ◌*◌, ◌%◌, ◌≤◌, ◌<◌}
 use native.Mathlib.Omega.{arith}
 use lib.Dec.{eqb, leb, ltb, lit<}
@@ -33,7 +33,7 @@ use Rattle.time.specs.Answer.{is_letter, half_of, half, hour_of, in_day, fractio
 
 -- ---- a time without AM or PM is read
 
-fraction_read : {x f : List ℕ} → Secfrac x f → fraction_of x ≡ some (nanos_of f)
+fraction_read : {x f : List ℕ} → Secfrac x f → fraction_of x ≡ Some (nanos_of f)
 unfolding nanos_of value
 fraction_read no_fraction = refl
 fraction_read (fraction {b} {f} p q) = rw (all_digits b f p q)
@@ -117,10 +117,10 @@ written_size (minutes h m q r) = omega (arith, length-append h (0x3A ∷ m))
 written_size (seconds h m s x f q r u v) = omega (arith, length-append h (0x3A ∷ (m ++ (0x3A ∷ (s ++ x)))))
 
 -- a time whose hour, counted by p, is g
-counted : (p : Half) {t : List ℕ} {h m s : ℕ} {f : List ℕ} (g : ℕ) → Written t (clock h m s f) → hour_of p h ≡ some g → in_range g m s ≡ true → from_hour p t ≡ some (since_midnight (clock g m s f))
+counted : (p : Half) {t : List ℕ} {h m s : ℕ} {f : List ℕ} (g : ℕ) → Written t (clock h m s f) → hour_of p h ≡ Some g → in_range g m s ≡ true → from_hour p t ≡ Some (since_midnight (clock g m s f))
 counted p g w e ok = written_read p w ∙ rw (e, ok)
 
-pub complete : {t : List ℕ} {c : Clock} → TimeOfDay t c → in_range c.hour c.minute c.second ≡ true → time_of_day t ≡ some (since_midnight c)
+pub complete : {t : List ℕ} {c : Clock} → TimeOfDay t c → in_range c.hour c.minute c.second ≡ true → time_of_day t ≡ Some (since_midnight c)
 unfolding time_of_day
 complete (full {t} {c} w) ok = rw (no_half t (written_last w)) (counted neither c.hour w refl ok)
 complete (Grammar.am {t} {h} {m} {s} {f} a b w p q x y) ok =
@@ -137,7 +137,7 @@ record FractionIs (x : List ℕ) (n : ℕ) : Type 0 where
   point : Secfrac x behind
   nanos : nanos_of behind ≡ n
 
-fraction_sound : (x : List ℕ) (n : ℕ) → fraction_of x ≡ some n → FractionIs x n
+fraction_sound : (x : List ℕ) (n : ℕ) → fraction_of x ≡ Some n → FractionIs x n
 unfolding nanos_of value
 fraction_sound [] n e = record { behind = []; point = no_fraction; nanos = cc }
 fraction_sound (b ∷ []) n e = none_some e
@@ -145,7 +145,7 @@ fraction_sound (b ∷ c ∷ f) n e =
     by_test (eqb b 0x2E && digits (c ∷ f))
     (λ p.
     let q = digits_head c f (and_right (eqb b 0x2E) (digits (c ∷ f)) p) in
-    let r : some (nanos_of (c ∷ f)) ≡ some n = rw p at e in
+    let r : Some (nanos_of (c ∷ f)) ≡ Some n = rw p at e in
     rw (eqb-true b 0x2E (and_left (eqb b 0x2E) (digits (c ∷ f)) p)) (record { behind = c ∷ f; point = fraction q.0 q.1; nanos = cc }))
     (λ p. none_some (rw p at e))
 
@@ -156,12 +156,12 @@ record Found (p : Half) (t : List ℕ) (n : ℕ) : Type 0 where
   second : ℕ
   behind : List ℕ
   written : Written t (clock hour minute second behind)
-  value_is : in_day minute second (nanos_of behind) (hour_of p hour) ≡ some n
+  value_is : in_day minute second (nanos_of behind) (hour_of p hour) ≡ Some n
 
 module _ (p : Half) (h : List ℕ) (hh : Hour h) where
-  seconds_sound : (a b c d : ℕ) (x : List ℕ) (o : Option ℕ) (n : ℕ) → is_digit a ≡ true → is_digit b ≡ true → is_digit c ≡ true → is_digit d ≡ true → fraction_of x ≡ o → with_fraction p (value 0 h) (worth a * 10 + worth b) (worth c * 10 + worth d) o ≡ some n → Found p (h ++ (0x3A ∷ a ∷ b ∷ 0x3A ∷ c ∷ d ∷ x)) n
-  seconds_sound a b c d x none n fa fb fc fd g e = none_some e
-  seconds_sound a b c d x (some k) n fa fb fc fd g e =
+  seconds_sound : (a b c d : ℕ) (x : List ℕ) (o : Option ℕ) (n : ℕ) → is_digit a ≡ true → is_digit b ≡ true → is_digit c ≡ true → is_digit d ≡ true → fraction_of x ≡ o → with_fraction p (value 0 h) (worth a * 10 + worth b) (worth c * 10 + worth d) o ≡ Some n → Found p (h ++ (0x3A ∷ a ∷ b ∷ 0x3A ∷ c ∷ d ∷ x)) n
+  seconds_sound a b c d x None n fa fb fc fd g e = none_some e
+  seconds_sound a b c d x (Some k) n fa fb fc fd g e =
       let y = fraction_sound x k g in
       record {
         hour = value 0 h;
@@ -172,7 +172,7 @@ module _ (p : Half) (h : List ℕ) (hh : Hour h) where
         value_is = rw (two_value a b, two_value c d, y.nanos) e;
       }
 
-  after_minutes_sound : (a b : ℕ) (r : List ℕ) (n : ℕ) → is_digit a ≡ true → is_digit b ≡ true → after_minutes p (value 0 h) (worth a * 10 + worth b) r ≡ some n → Found p (h ++ (0x3A ∷ a ∷ b ∷ r)) n
+  after_minutes_sound : (a b : ℕ) (r : List ℕ) (n : ℕ) → is_digit a ≡ true → is_digit b ≡ true → after_minutes p (value 0 h) (worth a * 10 + worth b) r ≡ Some n → Found p (h ++ (0x3A ∷ a ∷ b ∷ r)) n
   unfolding nanos_of value
   after_minutes_sound a b [] n fa fb e =
       record {
@@ -192,7 +192,7 @@ module _ (p : Half) (h : List ℕ) (hh : Hour h) where
       rw (eqb-true k 0x3A (and_left (eqb k 0x3A) (two_digits (c ∷ d ∷ x) 0) q)) (seconds_sound a b c d x (fraction_of x) n fa fb s.0 s.1 refl (rw q at e)))
       (λ q. none_some (rw q at e))
 
-  after_hour_sound : (r : List ℕ) (n : ℕ) → after_hour p (value 0 h) r ≡ some n → Found p (h ++ (0x3A ∷ r)) n
+  after_hour_sound : (r : List ℕ) (n : ℕ) → after_hour p (value 0 h) r ≡ Some n → Found p (h ++ (0x3A ∷ r)) n
   after_hour_sound [] n e = none_some e
   after_hour_sound (a ∷ []) n e = none_some (rw (and_false (is_digit a)) at e)
   after_hour_sound (a ∷ b ∷ r) n e =
@@ -200,12 +200,12 @@ module _ (p : Half) (h : List ℕ) (hh : Hour h) where
       (λ q. let s = both (is_digit a) (is_digit b) q in after_minutes_sound a b r n s.0 s.1 (rw q at e))
       (λ q. none_some (rw q at e))
 
-one_digit : (p : Half) (a b : ℕ) (r : List ℕ) (n : ℕ) → is_digit a && eqb b 0x3A ≡ true → after_hour p (worth a) r ≡ some n → Found p (a ∷ b ∷ r) n
+one_digit : (p : Half) (a b : ℕ) (r : List ℕ) (n : ℕ) → is_digit a && eqb b 0x3A ≡ true → after_hour p (worth a) r ≡ Some n → Found p (a ∷ b ∷ r) n
 one_digit p a b r n q e =
     let d = both (is_digit a) (eqb b 0x3A) q in
     rw (eqb-true b 0x3A d.1) (after_hour_sound p (a ∷ []) (one (one_figure a d.0)) r n (rw (one_value a) e))
 
-from_hour_sound : (p : Half) (t : List ℕ) (n : ℕ) → from_hour p t ≡ some n → Found p t n
+from_hour_sound : (p : Half) (t : List ℕ) (n : ℕ) → from_hour p t ≡ Some n → Found p t n
 from_hour_sound p [] n e = none_some e
 from_hour_sound p (a ∷ []) n e = none_some (rw (and_false (is_digit a)) at e)
 from_hour_sound p (a ∷ b ∷ []) n e =
@@ -255,14 +255,14 @@ record TimeIs (t : List ℕ) (n : ℕ) : Type 0 where
   nanos : since_midnight fields ≡ n
 
 -- the hour g of the day is in range where there is a number of nanoseconds
-in_day_lem : (g m s k n : ℕ) → in_day m s k (some g) ≡ some n → (in_range g m s ≡ true) × (((g * 60 + m) * 60 + s) * 1000000000 + k ≡ n)
+in_day_lem : (g m s k n : ℕ) → in_day m s k (Some g) ≡ Some n → (in_range g m s ≡ true) × (((g * 60 + m) * 60 + s) * 1000000000 + k ≡ n)
 in_day_lem g m s k n e =
     by_test (in_range g m s)
-    (λ ok. let q : some (((g * 60 + m) * 60 + s) * 1000000000 + k) ≡ some n = rw ok at e in (ok, cc))
+    (λ ok. let q : Some (((g * 60 + m) * 60 + s) * 1000000000 + k) ≡ Some n = rw ok at e in (ok, cc))
     (λ no. none_some (rw no at e))
 
 -- an hour of twelve
-twelve : (h g m s k n : ℕ) → in_day m s k (cond (leb 1 h && leb h 12) (some g) none) ≡ some n → (1 ≤ h) × (h ≤ 12) × (in_day m s k (some g) ≡ some n)
+twelve : (h g m s k n : ℕ) → in_day m s k (cond (leb 1 h && leb h 12) (Some g) None) ≡ Some n → (1 ≤ h) × (h ≤ 12) × (in_day m s k (Some g) ≡ Some n)
 twelve h g m s k n e =
     by_test (leb 1 h && leb h 12)
     (λ q. let d = both (leb 1 h) (leb h 12) q in (leb-true 1 h d.0, leb-true h 12 d.1, rw q at e))
@@ -270,27 +270,27 @@ twelve h g m s k n e =
 
 -- by the ending: x is what stands before it
 module _ (x : List ℕ) (a m n : ℕ) (la : is_letter 0x4D m ≡ true) where
-  am_sound : is_letter 0x41 a ≡ true → from_hour am x ≡ some n → TimeIs (x ++ (0x20 ∷ a ∷ m ∷ [])) n
+  am_sound : is_letter 0x41 a ≡ true → from_hour am x ≡ Some n → TimeIs (x ++ (0x20 ∷ a ∷ m ∷ [])) n
   am_sound l e =
       let f = from_hour_sound am x n e in
       let w = twelve f.hour (f.hour % 12) f.minute f.second (nanos_of f.behind) n f.value_is in
       let d = in_day_lem (f.hour % 12) f.minute f.second (nanos_of f.behind) n w.2 in
       record { fields = clock (f.hour % 12) f.minute f.second f.behind; time = Grammar.am a m f.written w.0 w.1 (letter_sound 0x41 a l) (letter_sound 0x4D m la); ok = d.0; nanos = d.1 }
 
-  pm_sound : is_letter 0x50 a ≡ true → from_hour pm x ≡ some n → TimeIs (x ++ (0x20 ∷ a ∷ m ∷ [])) n
+  pm_sound : is_letter 0x50 a ≡ true → from_hour pm x ≡ Some n → TimeIs (x ++ (0x20 ∷ a ∷ m ∷ [])) n
   pm_sound l e =
       let f = from_hour_sound pm x n e in
       let w = twelve f.hour (f.hour % 12 + 12) f.minute f.second (nanos_of f.behind) n f.value_is in
       let d = in_day_lem (f.hour % 12 + 12) f.minute f.second (nanos_of f.behind) n w.2 in
       record { fields = clock (f.hour % 12 + 12) f.minute f.second f.behind; time = Grammar.pm a m f.written w.0 w.1 (letter_sound 0x50 a l) (letter_sound 0x4D m la); ok = d.0; nanos = d.1 }
 
-full_sound : (t : List ℕ) (n : ℕ) → from_hour neither t ≡ some n → TimeIs t n
+full_sound : (t : List ℕ) (n : ℕ) → from_hour neither t ≡ Some n → TimeIs t n
 full_sound t n e =
     let f = from_hour_sound neither t n e in
     let d = in_day_lem f.hour f.minute f.second (nanos_of f.behind) n f.value_is in
     record { fields = clock f.hour f.minute f.second f.behind; time = full f.written; ok = d.0; nanos = d.1 }
 
-sound : (t : List ℕ) (n : ℕ) → time_of_day t ≡ some n → TimeIs t n
+sound : (t : List ℕ) (n : ℕ) → time_of_day t ≡ Some n → TimeIs t n
 unfolding time_of_day
 sound t n e =
     by_test (ltb (length t) 4)
@@ -347,7 +347,7 @@ ascii_time (Grammar.am {t} a b w p q x y) = ascii_append t _ (ascii_written w) (
 ascii_time (Grammar.pm {t} a b w p q x y) = ascii_append t _ (ascii_written w) (ascii_ending a b (ascii_letter (lit< tt) (lit< tt) x) (ascii_letter (lit< tt) (lit< tt) y))
 
 -- a text that is read is UTF-8, so that it need not be looked at first
-pub read_utf8 : (t : List ℕ) (n : ℕ) → time_of_day t ≡ some n → utf8 t ≡ true
+pub read_utf8 : (t : List ℕ) (n : ℕ) → time_of_day t ≡ Some n → utf8 t ≡ true
 read_utf8 t n e = ascii_utf8 t (ascii_time (sound t n e).time)
 
 -- ---- the theorem
@@ -359,8 +359,8 @@ agrees t z = (into, λ e. by_test (utf8 t) (λ u. back (time_of_day t) refl (rw 
     into (reads d ok) = rw (ascii_utf8 t (ascii_time d), complete d ok)
 
     back : (o : Option ℕ) → time_of_day t ≡ o → on_time o ≡ accepted z → Reads t z
-    back none p e = clash e
-    back (some n) p e = let x = sound t n p in let q : pos (since_midnight x.fields) ≡ z = cc x.nanos in rw (← q) (reads x.time x.ok)
+    back None p e = clash e
+    back (Some n) p e = let x = sound t n p in let q : pos (since_midnight x.fields) ≡ z = cc x.nanos in rw (← q) (reads x.time x.ok)
 
 -- at most one
 pub one_reading : {t : List ℕ} {y z : ℤ} → Reads t y → Reads t z → y ≡ z
@@ -371,8 +371,8 @@ pub refusals : (t : List ℕ) (n : ℕ) → Refuses t n ↔ (time_nanos t ≡ re
 refusals t n = (into, λ e. by_test (utf8 t) (λ u. back (time_of_day t) refl u (rw u at e)) (λ u. first u (rw u at e)))
   where
     by : (o : Option ℕ) → time_of_day t ≡ o → utf8 t ≡ true → ((z : ℤ) → Reads t z → ⊥) → time_nanos t ≡ refused 7
-    by none p u h = rw (u, p)
-    by (some k) p u h = absurd (h (pos k) ((agrees t (pos k)).1 (rw (u, p))))
+    by None p u h = rw (u, p)
+    by (Some k) p u h = absurd (h (pos k) ((agrees t (pos k)).1 (rw (u, p))))
 
     into : {n : ℕ} → Refuses t n → time_nanos t ≡ refused n
     into (not_utf8 h) = rw (fails (utf8 t) (utf.agrees t).1 h)
@@ -382,7 +382,7 @@ refusals t n = (into, λ e. by_test (utf8 t) (λ u. back (time_of_day t) refl u 
     first u e = rw (← same e) (not_utf8 (holds_not u (utf.agrees t).0))
 
     back : (o : Option ℕ) → time_of_day t ≡ o → utf8 t ≡ true → on_time o ≡ refused n → Refuses t n
-    back (some k) p u e = clash (sym e)
-    back none p u e =
+    back (Some k) p u e = clash (sym e)
+    back None p u e =
         let q : time_nanos t ≡ refused 7 = rw (u, p) in
         rw (← same e) (no_time ((utf.agrees t).1 u) (λ z r. clash (sym q ∙ (agrees t z).0 r)))

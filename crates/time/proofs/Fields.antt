@@ -2,7 +2,7 @@
 use mathlib.Core.Path.{◌≡◌, refl, sym, ap, ◌∙◌}
 use mathlib.Core.Bool.{Bool, true, false, cond, not, ◌&&◌}
 use mathlib.Core.List.{List}
-use mathlib.Core.Option.{Option, none, some}
+use Rattle.std.specs.Prelude.{Option, None, Some}
 use Prim.Native.Nat.{ℕ, suc, ◌+◌, ◌*◌, ◌≤◌, ◌<◌}
 use native.Mathlib.Omega.{arith}
 use native.Mathlib.Nat.{add-zero}
@@ -22,7 +22,7 @@ use Rattle.time.specs.Answer.{half, body, hour_of, in_day, fraction_of, with_fra
 -- what the clock makes of fields is what the definition makes of them
 pub of_clock :
     (h m s n : ℕ) → n < 1000000000 →
-    cond (in_range h m s && ltb n 1000000000) (some (((h * 60 + m) * 60 + s) * 1000000000 + n)) none ≡ in_day m s n (some h)
+    cond (in_range h m s && ltb n 1000000000) (Some (((h * 60 + m) * 60 + s) * 1000000000 + n)) None ≡ in_day m s n (Some h)
 of_clock h m s n l = rw (lt-ltb n 1000000000 l) (by_test (in_range h m s) (λ e. rw e) (λ e. rw e))
 
 -- ---- after the minutes: d is the byte there less 48, in which a colon is 10, and x the number behind it
@@ -38,7 +38,7 @@ module _ (s : List ℕ) (at : ℕ) (p : Half) (h m : ℕ) where
     seconds_test_lem : seconds_test d x ≡ eqb (get_or s at 0) 0x3A && two_digits (drop (suc at) s) 0
     seconds_test_lem = rw (two_test_lem at s 1 ex, drop-cons s at 0 l, ed, sign (get_or s at 0) 10 0x3A fits (lit< tt) refl)
 
-    pub not_seconds : not (seconds_test d x) ≡ true → none ≡ after_minutes p h m (drop at s)
+    pub not_seconds : not (seconds_test d x) ≡ true → None ≡ after_minutes p h m (drop at s)
     not_seconds q = rw (drop-cons s at 0 l, sym seconds_test_lem ∙ not-true (seconds_test d x) q)
 
     pub with_seconds : {f : Option ℕ} → not (seconds_test d x) ≡ false → f ≡ fraction_of (drop (at + 3) s) → with_fraction p h m x f ≡ after_minutes p h m (drop at s)
@@ -55,7 +55,7 @@ module _ (s : List ℕ) (at : ℕ) (p : Half) (h : ℕ) {v : ℕ} (e : v ≡ two
   at_zero : v ≡ two_or s (at + 0)
   at_zero = rw (add-zero at) e
 
-  pub no_minutes : 100 ≤ v → none ≡ after_hour p h (drop at s)
+  pub no_minutes : 100 ≤ v → None ≡ after_hour p h (drop at s)
   no_minutes q = rw (sym (two_test_lem at s 0 at_zero) ∙ le-ltb v 100 q)
 
   pub with_minutes : v < 100 → after_minutes p h v (drop (at + 2) s) ≡ after_hour p h (drop at s)

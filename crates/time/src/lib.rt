@@ -1,8 +1,7 @@
 // Times of day.
 #![tactic(auto)]
 
-ghost use Rattle.std.specs.Prelude.{◌≡◌, cond, ◌&&◌, ◌+◌, ◌-◌, ◌%◌, ◌≤◌, ◌<◌, leb, length, take, drop, pos};
-ghost use Rattle.std.proofs.Math.Option.{none, some};
+ghost use Rattle.std.specs.Prelude.{◌≡◌, cond, ◌&&◌, ◌+◌, ◌-◌, ◌%◌, ◌≤◌, ◌<◌, leb, length, take, drop, pos, None, Some};
 ghost use Rattle.refusal.specs.Outcome.{outcome64};
 ghost use Rattle.clock.specs.Clock.{nanos_of_day, time_is};
 ghost use Rattle.time.specs.Answer.{half_of, half, hour_of, in_day, fraction_of, after_minutes, after_hour, from_hour, time_of_day, time_nanos};
@@ -185,7 +184,7 @@ fn hour_of(hour: u8, half: Half) -> Hour
 
 fn of_twelve(hour: u8, plus: u8) -> Hour
     requires { plus ≤ 12 }
-    ensures { hour_is result ≡ cond (leb 1 hour && leb hour 12) (some (hour % 12 + plus)) none }
+    ensures { hour_is result ≡ cond (leb 1 hour && leb hour 12) (Some (hour % 12 + plus)) None }
 {
     let fits = (1 <= hour) & (hour <= 12);
     if !fits {

@@ -2,7 +2,7 @@
 use mathlib.Core.Path.{◌≡◌, refl, sym, ap, ◌∙◌}
 use mathlib.Core.Bool.{true, false, ◌&&◌, false≢true}
 use mathlib.Core.List.{List, [], ◌∷◌, ◌++◌, append_assoc, append-nil}
-use mathlib.Core.Option.{none}
+use Rattle.std.specs.Prelude.{None}
 use Prim.Native.Nat.{ℕ, suc, zero, ◌+◌, ◌-◌, ◌*◌, ◌≤◌, ◌<◌}
 use native.Mathlib.Nat.{add-zero, sub-zero}
 use native.Mathlib.Omega.{arith}
@@ -210,13 +210,13 @@ module _ (s : List ℕ) (from i k : ℕ) (h : from ≤ i) (p : i < length s) (P 
   letter_here n = front (drop i s) l rest_some here n
 
   -- no word goes on where there is no letter
-  pub ends_here : l.code ≡ 0 → (n : ℕ) → 0 < n → i < length s → unit_of (take (i - from) (drop from s) ++ take n (drop i s)) ≡ none
+  pub ends_here : l.code ≡ 0 → (n : ℕ) → 0 < n → i < length s → unit_of (take (i - from) (drop from s) ++ take n (drop i s)) ≡ None
   ends_here z n q r =
       not_lowered (take (i - from) (drop from s) ++ take n (drop i s))
       (P.letters_are (take n (drop i s)) ∙ no_front (drop i s) l rest_some here z n q)
 
   -- nor where the key is large already
-  pub full_here : 36028797018963968 ≤ k → (n : ℕ) → 0 < n → i < length s → unit_of (take (i - from) (drop from s) ++ take n (drop i s)) ≡ none
+  pub full_here : 36028797018963968 ≤ k → (n : ℕ) → 0 < n → i < length s → unit_of (take (i - from) (drop from s) ++ take n (drop i s)) ≡ None
   full_here g n q r =
       too_large (take (i - from) (drop from s) ++ take n (drop i s))
       (omega (arith, P.key_is (take n (drop i s)), key_grown k (lower (take n (drop i s))) (lower_some (drop i s) n rest_some q)))
@@ -258,5 +258,5 @@ module _ (s : List ℕ) (r : LettersRead) (L : LettersIs s 0 r) where
   pub word_letters : length s ≤ r.end → by_key r.key spellings ≡ unit_of s
   word_letters h = rw (sub-zero, take_all r.end s h) at (packed_unit L.packed)
 
-  pub word_longer : r.end < length s → none ≡ unit_of s
+  pub word_longer : r.end < length s → None ≡ unit_of s
   word_longer h = sym (rw (sub-zero, take_all (length s) (drop r.end s) (omega (arith, length-drop r.end s)), take-append-drop r.end s) at (L.longest (length s) (omega arith) h))

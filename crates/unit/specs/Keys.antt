@@ -1,7 +1,6 @@
 -- How the code reads a unit word: its letters, in lower case and with U+212A as k, are the digits of a number of base 32, by which the
 -- unit is found. Assumes nothing.
-use Rattle.std.specs.Prelude.{◌≡◌, Bool, true, false, cond, ◌&&◌, List, [], ◌∷◌, ◌++◌, ℕ, ◌+◌, ◌-◌, ◌*◌, ◌≤◌, ◌<◌, eqb, length, take, drop}
-use Rattle.std.proofs.Math.Option.{Option, none, some}
+use Rattle.std.specs.Prelude.{◌≡◌, Bool, true, false, cond, ◌&&◌, List, [], ◌∷◌, ◌++◌, ℕ, ◌+◌, ◌-◌, ◌*◌, ◌≤◌, ◌<◌, eqb, length, take, drop, Option, None, Some}
 use Prim.Native.String.{String}
 use Rattle.text.specs.Digits.{within}
 use Rattle.utf8.specs.Quoted.{bytes}
@@ -31,8 +30,8 @@ key_in (s ∷ l) k = cond (eqb k (key_of s)) true (key_in l k)
 
 -- the unit in whose row a word with the key k stands
 unfoldable pub by_key : ℕ → List Row → Option IntervalUnit
-by_key k [] = none
-by_key k (row u words ∷ rows) = cond (key_in words k) (some u) (by_key k rows)
+by_key k [] = None
+by_key k (row u words ∷ rows) = cond (key_in words k) (Some u) (by_key k rows)
 
 -- a lower-case letter's number from 1 to 26, 0 for any other byte
 unfoldable pub code_of : ℕ → ℕ
@@ -52,4 +51,4 @@ pub record LettersIs (s : List ℕ) (from : ℕ) (r : Letters) : Type 0 where
   pub start : from ≤ r.end
   pub inside : r.end ≤ length s
   pub packed : Packed (take (r.end - from) (drop from s)) r.key
-  pub longest : (n : ℕ) → 0 < n → r.end < length s → unit_of (take (r.end - from) (drop from s) ++ take n (drop r.end s)) ≡ none
+  pub longest : (n : ℕ) → 0 < n → r.end < length s → unit_of (take (r.end - from) (drop from s) ++ take n (drop r.end s)) ≡ None

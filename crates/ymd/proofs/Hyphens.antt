@@ -2,7 +2,7 @@
 use mathlib.Core.Path.{◌≡◌}
 use mathlib.Core.Bool.{true, false}
 use mathlib.Core.List.{List}
-use mathlib.Core.Option.{none}
+use Rattle.std.specs.Prelude.{None}
 use Prim.Native.Nat.{ℕ, suc, ◌+◌, ◌-◌, ◌≤◌, ◌<◌}
 use native.Mathlib.Omega.{arith}
 use native.Mathlib.Numerals.{add-one}
@@ -32,11 +32,11 @@ module _ (s : List ℕ) (i : ℕ) where
 -- ---- h is the place of the first hyphen behind the sign, and k of the next
 
 module _ (s : List ℕ) {h : ℕ} (eh : h ≡ 1 + to_hyphen (drop 1 s)) where
-  pub short_year : h < 5 → none ≡ extended_ymd s
+  pub short_year : h < 5 → None ≡ extended_ymd s
   unfolding extended_ymd
   short_year l = rw (lt-leb 4 (to_hyphen (drop 1 s)) (omega arith))
 
-  pub one_hyphen_less : length s ≤ h → none ≡ extended_ymd s
+  pub one_hyphen_less : length s ≤ h → None ≡ extended_ymd s
   unfolding extended_ymd
   one_hyphen_less l =
       rw (le-ltb (to_hyphen (drop 1 s) + 1) (length s) (omega arith), and_false (leb 4 (to_hyphen (drop 1 s))))
@@ -52,7 +52,7 @@ module _ (s : List ℕ) {h : ℕ} (eh : h ≡ 1 + to_hyphen (drop 1 s)) where
         let ek1 : to_hyphen (drop (h + 1) s) ≡ k - (h + 1) = omega arith in
         rw (le-leb 4 n (omega arith), lt-ltb (n + 1) (length s) (omega arith), eh1, eh2, ek1)
 
-    pub no_day : length s ≤ k → none ≡ extended_ymd s
+    pub no_day : length s ≤ k → None ≡ extended_ymd s
     no_day l = rw (by_places, le-ltb (k - (h + 1)) (length (drop (h + 1) s)) (omega (arith, length-drop (h + 1) s)))
 
     pub in_parts :

@@ -2,7 +2,7 @@
 use mathlib.Core.Path.{◌≡◌, refl, sym, ◌∙◌}
 use mathlib.Core.Bool.{Bool, true, false, not, ◌&&◌}
 use mathlib.Core.List.{List}
-use mathlib.Core.Option.{none}
+use Rattle.std.specs.Prelude.{None}
 use Prim.Native.Nat.{ℕ, ◌+◌, ◌*◌, ◌≤◌, ◌<◌}
 use native.Mathlib.Nat.{add-zero}
 use native.Mathlib.Numerals.{add-one}
@@ -52,7 +52,7 @@ module _ (s : List ℕ) {c y m d : ℕ} (ec : c ≡ two_or s 0) (ey : y ≡ two_
   compact_test_lem =
       rw (two_test_lem 0 s 0 ec, two_test_lem 0 s 2 ey, two_test_lem 0 s 4 em, two_test_lem 0 s 6 ed)
 
-  pub no_compact : not (compact_test (length s) c y m d) ≡ true → none ≡ compact_day s
+  pub no_compact : not (compact_test (length s) c y m d) ≡ true → None ≡ compact_day s
   no_compact e = rw (sym compact_test_lem ∙ not-true (compact_test (length s) c y m d) e)
 
   pub a_compact : not (compact_test (length s) c y m d) ≡ false → civil (pos (c * 100 + y)) m d ≡ compact_day s
@@ -86,7 +86,7 @@ module _ (s : List ℕ) (n : ℕ) {a : ℕ} {f : Bool} (ea : a ≡ two_or s n) (
         let w = is_worth (get_or s n 0) b fits eb (ltb-true b 10 (both (ltb b 10) g h).0) in
         rw (sym two_left ∙ no_two, sym one_left ∙ h, get_or-drop n s 0 0, add-zero n, w)
 
-    pub no_last : ltb b 10 && g ≡ false → none ≡ last_day z m (drop n s)
+    pub no_last : ltb b 10 && g ≡ false → None ≡ last_day z m (drop n s)
     no_last h = rw (sym two_left ∙ no_two, sym one_left ∙ h)
 
 -- ---- yyyy-m-d: century, year of it and month as above, h the byte behind two digits of the month; o its one digit, k the byte behind
@@ -131,7 +131,7 @@ module _ (s : List ℕ) {c y m h : ℕ} (fits : (i : ℕ) → get_or s i 0 < 256
         let w : o < 10 = ltb-true o 10 (digit_below (get_or s 5 0) o (fits 5) eo ∙ x.2) in
         rw (sym two_month ∙ no_two, t, two_is 0 s 0 ec x.0, two_is 0 s 2 ey x.1, is_worth (get_or s 5 0) o (fits 5) eo w)
 
-    pub no_month : one_test c y o k ≡ false → none ≡ hyphen_day s
+    pub no_month : one_test c y o k ≡ false → None ≡ hyphen_day s
     no_month e = rw (sym two_month ∙ no_two, sym one_month ∙ e)
 
 -- ---- h is byte 4 less 48

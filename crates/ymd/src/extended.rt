@@ -1,6 +1,5 @@
 // The parts of the signed form: its hyphens, and the numbers between them.
-ghost use Rattle.std.specs.Prelude.{◌≡◌, ◌+◌, ◌≤◌, length, drop};
-ghost use Rattle.std.proofs.Math.Option.{some};
+ghost use Rattle.std.specs.Prelude.{◌≡◌, ◌+◌, ◌≤◌, length, drop, Some};
 ghost use Rattle.number.specs.Widths.{int32, nat32};
 ghost use Rattle.ymd.specs.Forms.{to_hyphen, numbers};
 ghost use Rattle.ymd.specs.Read.{ymd_is};
@@ -32,7 +31,7 @@ pub fn of_numbers(year: Int32, month: Nat32, day: Nat32) -> Ymd
 }
 
 fn of_year(y: i32, month: Nat32, day: Nat32) -> Ymd
-    ensures { ymd_is result ≡ numbers (some y) (nat32 month) (nat32 day) }
+    ensures { ymd_is result ≡ numbers (Some y) (nat32 month) (nat32 day) }
 {
     let Nat32::Some(m) = month else {
         return Ymd::None;
