@@ -16,9 +16,11 @@ module _ (s : List ℕ) (i : ℕ) (h : i < length s) where
   unfolding trim_start
   start_off e = rw (drop-cons s i 0 h, e)
 
-pub start_end : (s : List ℕ) (i : ℕ) → length s ≤ i → drop i s ≡ trim_start (drop i s)
+-- a text without its first byte, a blank
+pub start_step : (t : List ℕ) → 1 ≤ length t → blank (get_or t 0 0) ≡ true → trim_start (take (length t - 1) (drop 1 t)) ≡ trim_start t
 unfolding trim_start
-start_end s i h = rw (drop_of_length-le s h)
+start_step [] h e = absurd (omega arith)
+start_step (b ∷ t) h e = rw (e, sub-one, take-length t)
 
 -- ---- from the end
 
@@ -49,10 +51,9 @@ module _ (s : List ℕ) (n : ℕ) (p : 0 < n) (h : n ≤ length s) where
   pub end_off : blank (get_or s (n - 1) 0) ≡ false → trim_end (take n s) ≡ take n s
   end_off e = rw (last s n p h) (snoc_kept (take (n - 1) s) (get_or s (n - 1) 0) e)
 
-pub end_none : (s : List ℕ) (n : ℕ) → n ≤ 0 → take n s ≡ trim_end (take n s)
-unfolding trim_end
-end_none s zero h = refl
-end_none s (suc n) h = absurd (not-suc-le-zero h)
+-- a text without its last byte, a blank
+pub end_step : (t : List ℕ) → 1 ≤ length t → blank (get_or t (length t - 1) 0) ≡ true → trim_end (take (length t - 1) t) ≡ trim_end t
+end_step t h e = rw (take-length t) at (sym (end_on t (length t) (omega arith) (omega arith) e))
 
 -- ---- a digit is no blank
 
@@ -72,7 +73,7 @@ unfolding trim_start
 start_kept [] e = refl
 start_kept (b ∷ t) e = rw e
 
-pub end_kept : (s : List ℕ) → 0 < length s → blank (get_or s (length s - 1) 0) ≡ false → trim_end s ≡ s
+pub end_kept : (s : List ℕ) → 1 ≤ length s → blank (get_or s (length s - 1) 0) ≡ false → trim_end s ≡ s
 end_kept s h e = rw (take-length s) at (end_off s (length s) h (omega arith) e)
 
 -- ---- a text that need be trimmed at one end only, or at none
@@ -109,3 +110,15 @@ module _ (s : List ℕ) where
       by : (s : List ℕ) → length s ≡ 0 → s ≡ trimmed s
       by [] h = refl
       by (b ∷ t) h = absurd (omega arith)
+
+-- ---- nothing is left of no text
+
+pub start_none : (t : List ℕ) → length t < 1 → t ≡ trim_start t
+unfolding trim_start
+start_none [] h = refl
+start_none (b ∷ t) h = absurd (omega arith)
+
+pub end_none : (t : List ℕ) → length t < 1 → t ≡ trim_end t
+unfolding trim_end
+end_none [] h = refl
+end_none (b ∷ t) h = absurd (omega arith)
