@@ -1,20 +1,11 @@
 -- Trimming: blanks taken from either end one by one, and that what is computed is the trimmed text. Assumes nothing.
-use Rattle.std.proofs.Common.{◌≡◌, ℕ, zero, suc, ◌+◌, ◌-◌, ◌<◌, ◌≤◌, true, false, List, [], ◌∷◌, ◌++◌, length, get_or, take, drop, sym, refl, ap, ◌∙◌, not-suc-le-zero, add-one, sub-one, arith, drop_of_length-le, drop-cons, take-suc, ne_eqb}
+use Rattle.std.proofs.Common.{◌≡◌, ℕ, zero, suc, ◌-◌, ◌<◌, ◌≤◌, true, false, List, [], ◌∷◌, ◌++◌, length, get_or, take, drop, sym, refl, ap, ◌∙◌, sub-one, arith, take-suc, ne_eqb}
 use lib.Seq.{take-length}
 use Rattle.text.specs.Digits.{digit_of}
 use Rattle.text.specs.Trim.{blank, trim_start, before, trim_end, trimmed}
 use Rattle.text.proofs.Bools.{by_test}
 
 -- ---- from the start
-
-module _ (s : List ℕ) (i : ℕ) (h : i < length s) where
-  pub start_on : blank (get_or s i 0) ≡ true → trim_start (drop i s) ≡ trim_start (drop (i + 1) s)
-  unfolding trim_start
-  start_on e = rw (drop-cons s i 0 h, add-one, e)
-
-  pub start_off : blank (get_or s i 0) ≡ false → trim_start (drop i s) ≡ drop i s
-  unfolding trim_start
-  start_off e = rw (drop-cons s i 0 h, e)
 
 -- a text without its first byte, a blank
 pub start_step : (t : List ℕ) → 1 ≤ length t → blank (get_or t 0 0) ≡ true → trim_start (take (length t - 1) (drop 1 t)) ≡ trim_start t

@@ -1,4 +1,4 @@
-use Rattle.std.proofs.Common.{rules, arith, length, length-drop}
+use Rattle.std.proofs.Common.{rules, arith, length-drop}
 use Rattle.text.proofs.DigitLaws.{run_end}
 use Rattle.text.proofs.Parts.{rest}
 use Rattle.text.proofs.digits.run_end.Goals as goal
