@@ -1,9 +1,9 @@
 // Times of day.
 #![tactic(auto)]
 
-ghost use Rattle.std.specs.Prelude.{◌≡◌, ◌<◌, IfSome, pos};
+ghost use Rattle.std.specs.Prelude.{◌≡◌, ◌<◌, IfSome, option_map, pos};
 ghost use Rattle.refusal.specs.Outcome.{outcome};
-ghost use Rattle.clock.specs.Clock.{nanos_of_day, time_is};
+ghost use Rattle.clock.specs.Clock.{nanos_of_day};
 ghost use Rattle.time.specs.Answer.{half, body, hour_of, fraction_of, after_minutes, after_hour, from_hour, time_of_day, time_nanos};
 
 use clock::NaiveTime;
@@ -41,7 +41,7 @@ pub fn nanos_of_day(t: NaiveTime) -> i64
 }
 
 pub fn string_to_time(s: &[u8]) -> Option<NaiveTime>
-    ensures { time_is result ≡ time_of_day s.now }
+    ensures { option_map nanos_of_day result ≡ time_of_day s.now }
 {
     let (body, half) = split_half(s);
     from_hour(body, half)
@@ -61,7 +61,7 @@ fn split_half(s: &[u8]) -> (&[u8], Option<Half>)
 
 // One or two hour digits and a colon.
 fn from_hour(s: &[u8], half: Option<Half>) -> Option<NaiveTime>
-    ensures { time_is result ≡ from_hour half s.now }
+    ensures { option_map nanos_of_day result ≡ from_hour half s.now }
 {
     match s {
         [a, b, rest @ ..] if digit(*a) < 10 && digit(*b) == COLON => {
@@ -74,7 +74,7 @@ fn from_hour(s: &[u8], half: Option<Half>) -> Option<NaiveTime>
 
 // Two minute digits.
 fn after_hour(s: &[u8], hour: u8, half: Option<Half>) -> Option<NaiveTime>
-    ensures { time_is result ≡ after_hour half hour s.now }
+    ensures { option_map nanos_of_day result ≡ after_hour half hour s.now }
 {
     let minute = two(s, 0)?;
     after_minutes(&s[2..], hour, minute, half)
@@ -82,7 +82,7 @@ fn after_hour(s: &[u8], hour: u8, half: Option<Half>) -> Option<NaiveTime>
 
 // Nothing, or a colon and two second digits, and perhaps a fraction.
 fn after_minutes(s: &[u8], hour: u8, minute: u8, half: Option<Half>) -> Option<NaiveTime>
-    ensures { time_is result ≡ after_minutes half hour minute s.now }
+    ensures { option_map nanos_of_day result ≡ after_minutes half hour minute s.now }
 {
     match s {
         [] => clock::from_hms_nano(hour_of(hour, half)?, minute, 0, 0),
