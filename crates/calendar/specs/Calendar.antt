@@ -3,8 +3,6 @@
 -- not have makes no date. Assumes nothing.
 use Rattle.std.specs.Prelude.{Bool, true, false, cond, not, ◌&&◌, ◌||◌, [], ◌∷◌, ℕ, zero, suc, ◌+◌, ◌-◌, ◌%◌, eqb, leb, get_or, ℤ, pos, neg_ℤ, nat_abs, ◌+ℤ◌, ◌-ℤ◌, Option, None, Some}
 use Rattle.std.specs.Int.Signed.{le_z}
-use Rattle.calendar.specs.declared.Day.{Day}
-use Rattle.calendar.specs.declared.Day.TheVariants.{Number, None}
 
 -- k divides the year y
 abbrev pub divides : ℕ → ℤ → Bool
@@ -52,8 +50,3 @@ day_number y m d = year_start y +ℤ pos (before (leap y) m + (d - 1))
 -- the day number of a date, if the calendar has it
 abbrev pub civil : ℤ → ℕ → ℕ → Option ℤ
 civil y m d = cond (is_date y m d) (Some (day_number y m d)) None
-
--- the day number that an answer holds, if it holds one
-abbrev pub day : Day → Option ℤ
-day (Number z) = Some z
-day None = None

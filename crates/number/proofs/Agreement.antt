@@ -1,6 +1,6 @@
 -- The definitions agree: what the grammar `Numeral` says of a text is what `numeral` computes, `in_signed` is the usual range of a
 -- signed width, and a number read at more bits and then narrowed is read at fewer. Assumes nothing.
-use mathlib.Core.Path.{◌≡◌, refl, sym, ap, ◌∙◌}
+use mathlib.Core.Path.{◌≡◌, refl}
 use mathlib.Core.Bool.{Bool, true, false, ◌&&◌, false≢true}
 use mathlib.Core.List.{List, [], ◌∷◌}
 use mathlib.Core.Logic.{◌↔◌}
@@ -13,17 +13,12 @@ use lib.ListN.{length}
 use lib.IntN.{ℤ, pos, negsuc}
 use lib.Pow.{pow_pos, pow_mono}
 use lib.Signed.{le_z, mag}
-use mir.Syntax.{w64}
-use mir.Facts.{to_z-of_z}
 use borrow.Author.Tests.{eqb-true, ltb-true, lt-ltb, ne_eqb, le-leb}
 use Rattle.text.specs.Digits.{is_digit, digits, value}
 use Rattle.text.proofs.Bools.{by_test, both_ways, and_false, and_left, and_right, within_is}
-use Rattle.number.specs.declared.Int64.{Int64}
-use Rattle.number.specs.declared.Int64.TheVariants.{Some as Some64, None as None64}
-use Rattle.number.specs.Widths.{in_signed, in_type, keep, signed, int64}
+use Rattle.number.specs.Widths.{in_signed, in_type, keep, signed}
 use Rattle.number.specs.Decimal.{Digits, one_or_more, Numeral, plain, plus, minus, unsigned, numeral, integer}
 use Rattle.number.proofs.Zed.{le_yes, of_mag}
-use Rattle.number.proofs.Ranges.{rd}
 
 -- ---- one digit or more
 
@@ -103,15 +98,3 @@ below false j k h (negsuc n) e = absurd (false≢true e)
 -- a number read as one of k signed bits and kept where it is one of a type of fewer bits is read as one of that type
 pub fewer_bits : (sign : Bool) (j k : ℕ) → j < k → (t : List ℕ) → keep (in_type sign j) (integer true k t) ≡ keep (in_type sign j) (numeral true t)
 fewer_bits sign j k h t = twice (in_type true k) (in_type sign j) (below sign j k h) (numeral true t)
-
--- the same of an answer r of 64 bits: it holds x, as a signed local hands it on, or nothing
-
-module _ (sign : Bool) (j : ℕ) (h : j < 64) (t : List ℕ) {r : Int64} (p : int64 r ≡ integer true 64 t) where
-  read_as : {v : Int64} → r ≡ v → keep (in_type sign j) (int64 v) ≡ keep (in_type sign j) (numeral true t)
-  read_as q = ap (keep (in_type sign j)) (ap int64 (sym q) ∙ p) ∙ fewer_bits sign j 64 h t
-
-  pub read_some : {x : ℤ} → r ≡ Some64 x → mag x < 2 ^ 63 → keep (in_type sign j) (Some (rd w64 x)) ≡ keep (in_type sign j) (numeral true t)
-  read_some {x} q l = rw (to_z-of_z {w = w64} {z = x} (record { sfits = l })) (read_as q)
-
-  pub read_none : r ≡ None64 → None ≡ keep (in_type sign j) (numeral true t)
-  read_none q = read_as q

@@ -3,12 +3,12 @@ use mathlib.Core.Path.{◌≡◌, refl, sym, ◌∙◌}
 use mathlib.Core.Bool.{Bool, true, false, cond}
 use mathlib.Core.List.{List, [], ◌∷◌}
 use Rattle.std.specs.Prelude.{None, Some}
-use Prim.Native.Nat.{ℕ, ◌+◌, ◌-◌, ◌*◌, ◌^◌, ◌≤◌, ◌<◌}
+use Prim.Native.Nat.{ℕ, ◌+◌, ◌*◌, ◌^◌, ◌≤◌, ◌<◌}
 use native.Mathlib.Omega.{arith}
 use lib.ListN.{get_or, length, drop, length-drop}
 use mir.Syntax.{Width}
 use mir.Val.{hbits}
-use borrow.Author.Tests.{eq-eqb, ne_eqb}
+use borrow.Author.Tests.{ne_eqb}
 use Rattle.text.specs.Digits.{digits, value, digit_of}
 use Rattle.text.proofs.Bools.{and_false}
 use Rattle.text.proofs.DigitLaws.{digits_on, digits_off, digits_end, value_on, value_end, grows}
@@ -64,23 +64,11 @@ one_more {s} {at} {i} {a} {d} r h f e g = record { number = sym (value_on s i d 
 -- ---- a text by its first byte
 
 module _ (sign : Bool) (bits : ℕ) where
-  pub no_text : (s : List ℕ) → length s ≡ 0 → None ≡ integer sign bits s
-  no_text [] h = refl
-  no_text (b ∷ t) h = absurd (omega arith)
-
-  pub after_plus : (s : List ℕ) → get_or s 0 0 ≡ 0x2B → keep (in_type sign bits) (unsigned false (drop 1 s)) ≡ integer sign bits s
-  after_plus [] e = absurd (omega arith)
-  after_plus (b ∷ t) e = rw (eq-eqb b 0x2B e)
-
   pub no_sign : (s : List ℕ) → (get_or s 0 0 ≡ 0x2B → ⊥) → (get_or s 0 0 ≡ 0x2D → ⊥) → keep (in_type sign bits) (unsigned false s) ≡ integer sign bits s
   no_sign [] p q = refl
   no_sign (b ∷ t) p q = rw (ne_eqb b 0x2B p, ne_eqb b 0x2D q, and_false sign)
 
 module _ (bits : ℕ) where
-  pub after_minus : (s : List ℕ) → get_or s 0 0 ≡ 0x2D → keep (in_signed (bits - 1)) (unsigned true (drop 1 s)) ≡ integer true bits s
-  after_minus [] e = absurd (omega arith)
-  after_minus (b ∷ t) e = rw e
-
   -- a minus is no sign of an unsigned type, and behind another first byte its numbers are those of a signed type
   pub refused : (s : List ℕ) → get_or s 0 0 ≡ 0x2D → None ≡ integer false bits s
   refused [] e = refl

@@ -5,19 +5,19 @@ ghost use Rattle.number.specs.Widths.{fit, fit_unsigned, nat32};
 pub fn add_checked_i64(a: i64, b: i64) -> Option<i64>
     ensures { result ≡ fit 63 (a +ℤ b) }
 {
-    a.checked_add(b)
+    i64::checked_add(a, b)
 }
 
 pub fn add_checked_i32(a: i32, b: i32) -> Option<i32>
     ensures { result ≡ fit 31 (a +ℤ b) }
 {
-    a.checked_add(b)
+    i32::checked_add(a, b)
 }
 
 pub fn mul_checked_i32(a: i32, b: i32) -> Option<i32>
     ensures { result ≡ fit 31 (a *ℤ b) }
 {
-    a.checked_mul(b)
+    i32::checked_mul(a, b)
 }
 
 // A 64-bit number as one of 32 bits, where it fits.

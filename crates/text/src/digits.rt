@@ -42,7 +42,7 @@ pub fn two(s: &[u8], at: usize) -> Option<u8>
 
 // How many digits a text begins with.
 pub fn run_len(s: &[u8]) -> usize
-    ensures { result ≡ run s.now }
+    ensures { (result ≡ run s.now) × (result ≤ length s.now) }
 {
     for (i, &b) in s.iter().enumerate() {
         if 10 <= digit(b) {
@@ -56,8 +56,9 @@ pub fn run_len(s: &[u8]) -> usize
 pub fn run_end(s: &[u8], from: usize) -> usize
     ensures { (result ≡ from + run (drop from s.now)) × (from ≤ length s.now → result ≤ length s.now) }
 {
-    match s.get(from..) {
-        Some(rest) => from + run_len(rest),
-        None => from,
+    if from < s.len() {
+        from + run_len(&s[from..])
+    } else {
+        from
     }
 }

@@ -43,11 +43,11 @@ pub fn trim_ascii_end(s: &[u8]) -> &[u8]
 pub fn trim_pre_and_post_whitespace(s: &[u8]) -> &[u8]
     ensures { result.now ≡ trimmed s.now }
 {
-    let (Some(first), Some(last)) = (s.first(), s.last()) else {
+    if s.is_empty() {
         return s;
-    };
-    let prefix = 10 <= digits::digit(*first);
-    let suffix = 10 <= digits::digit(*last);
+    }
+    let prefix = 10 <= digits::digit(s[0]);
+    let suffix = 10 <= digits::digit(s[s.len() - 1]);
     match (prefix, suffix) {
         (true, true) => trim_ascii_end(trim_ascii_start(s)),
         (true, false) => trim_ascii_start(s),

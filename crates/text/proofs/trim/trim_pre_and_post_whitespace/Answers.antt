@@ -1,16 +1,19 @@
-use Rattle.std.proofs.Common.{rules, ap, ◌∙◌, arith, length}
-use Rattle.text.specs.Trim.{trim_end}
+-- `text::trim::trim_pre_and_post_whitespace` meets its contract: at an end with a digit there is nothing to trim. Assumes nothing.
+use Rattle.std.proofs.Common.{◌-◌, length, ◌∙◌, rules}
 use Rattle.text.proofs.TrimLaws.{digit_kept, start_only, end_only, neither, nothing}
 use Rattle.text.proofs.trim.trim_pre_and_post_whitespace.Goals as goal
 
-pub returns-in_default-2 : goal.returns-in_default-2
-returns-in_default-2 c = nothing c.args.s.now ?
+pub returns-then-is_empty : goal.returns-then-is_empty
+returns-then-is_empty c = nothing c.args.s.now (search rules)
 
 pub returns-in-true-false : goal.returns-in-true-false
-returns-in-true-false c = ?
+returns-in-true-false c = c.trim_ascii_start-in-true-false.ensures ∙ start_only c.args.s.now (search rules) (digit_kept _ _ (c.type_inv.s (length c.args.s.now - 1)).fits c.digit-suffix.ensures (search rules))
 
 pub returns-in-false-true : goal.returns-in-false-true
-returns-in-false-true c = ?
+returns-in-false-true c = c.trim_ascii_end-in-false-true.ensures ∙ end_only c.args.s.now (digit_kept _ _ (c.type_inv.s 0).fits c.digit-prefix.ensures (search rules))
 
 pub returns-in-false-false : goal.returns-in-false-false
-returns-in-false-false c = ?
+returns-in-false-false c =
+    neither c.args.s.now (search rules)
+    (digit_kept _ _ (c.type_inv.s 0).fits c.digit-prefix.ensures (search rules))
+    (digit_kept _ _ (c.type_inv.s (length c.args.s.now - 1)).fits c.digit-suffix.ensures (search rules))

@@ -1,9 +1,6 @@
--- `calendar::days_from_ymd` meets its contract, by the laws of years, months and dates. Assumes nothing.
-use mathlib.Core.Path.{◌≡◌}
-use Prim.Native.Nat.{ℕ, ◌+◌, ◌-◌, ◌*◌, ◌/◌, ◌%◌, ◌^◌, ◌<◌}
-use native.Mathlib.Omega.{arith}
+-- `calendar::starts::YearStarts::days_from_ymd` meets its contract, by the laws of years, months and dates. Assumes nothing.
+use Rattle.std.proofs.Common.{◌≡◌, ℕ, ℤ, pos, ◌+◌, ◌-◌, ◌*◌, ◌/◌, ◌%◌, ◌^◌, ◌<◌, ◌+ℤ◌, arith}
 use lib.Dec.{eqb, lit<}
-use lib.IntN.{ℤ, pos, ◌+ℤ◌}
 use mir.Syntax.{w32}
 use mir.Val.{SFits}
 use mir.Facts.{to_z-of_z}
@@ -12,7 +9,7 @@ use Rattle.calendar.specs.Calendar.{leap, year_days, month_days, before}
 use Rattle.calendar.proofs.Years.{Counts, counts, by_cycle, epoch}
 use Rattle.calendar.proofs.Months.{next_before}
 use Rattle.calendar.proofs.Dates.{too_late, is_leap, number, difference}
-use Rattle.calendar.proofs.days_from_ymd.Goals as goal
+use Rattle.calendar.proofs.starts.YearStarts.days_from_ymd.Goals as goal
 
 -- what the functions of the cycle ensure, said of year y of n, and of its month m, which starts after b days and the next after x
 known :
