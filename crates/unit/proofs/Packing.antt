@@ -1,17 +1,17 @@
 -- The letters of a unit word as a loop packs them: one letter more, and where no longer word is a unit. Assumes nothing.
-use mathlib.Core.Path.{◌≡◌, refl, sym, ap, ◌∙◌}
-use mathlib.Core.Bool.{true, false, ◌&&◌, false≢true}
+use mathlib.Core.Path.{◌≡◌, refl, sym, ◌∙◌}
+use mathlib.Core.Bool.{true, false, false≢true}
 use mathlib.Core.List.{List, [], ◌∷◌, ◌++◌, append_assoc, append-nil}
 use Rattle.std.specs.Prelude.{None, Some}
 use Prim.Native.Nat.{ℕ, suc, zero, ◌+◌, ◌-◌, ◌*◌, ◌≤◌, ◌<◌}
-use native.Mathlib.Nat.{add-zero, sub-zero}
+use native.Mathlib.Nat.{sub-zero}
 use native.Mathlib.Omega.{arith}
 use lib.Dec.{eqb}
 use lib.ListN.{length, get_or, take, drop, length-drop, take-append-drop}
-use lib.Seq.{get_or-drop, drop-drop, take-add, take_all}
+use lib.Seq.{drop-drop, take-add, take_all}
 use borrow.Author.Tests.{ne_eqb}
 use Rattle.text.specs.Digits.{within}
-use Rattle.text.proofs.Bools.{and_false, by_test, within_is, within_yes, within_over}
+use Rattle.text.proofs.Bools.{and_false, by_test, within_is}
 use Rattle.unit.specs.Units.{spellings, low, kelvin, lower, unit_of}
 use Rattle.unit.specs.Keys.{lowered, key_on, by_key, plain_letter, letter_of, front_of, Packed, LettersIs}
 use Rattle.unit.specs.declared.letters.Letter.{Letter}

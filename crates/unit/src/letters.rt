@@ -25,8 +25,14 @@ pub fn first_letter(text: &[u8]) -> Option<Letter>
     ensures { result ≡ front_of text.now }
 {
     match text {
-        [b @ b'a'..=b'z', ..] => Some(Letter { code: (*b - 0x60) as u64, width: 1 }),
-        [b @ b'A'..=b'Z', ..] => Some(Letter { code: (*b - 0x40) as u64, width: 1 }),
+        [b @ b'a'..=b'z', ..] => Some(Letter {
+            code: (*b - 0x60) as u64,
+            width: 1,
+        }),
+        [b @ b'A'..=b'Z', ..] => Some(Letter {
+            code: (*b - 0x40) as u64,
+            width: 1,
+        }),
         [0xE2, 0x84, 0xAA, ..] => Some(Letter { code: 11, width: 3 }),
         _ => None,
     }
