@@ -5,6 +5,7 @@ ghost use Rattle.calendar.specs.Cycle.{start, AreYearStarts};
 
 use crate::cycle;
 
+#[derive(Drop)]
 pub struct YearStarts {
     days: [u32; 401],
     ghost table: { AreYearStarts days },
