@@ -5,6 +5,7 @@ use Rattle.calendar.specs.Calendar.{civil}
 use Rattle.number.specs.Decimal.{integer}
 use Rattle.text.specs.Digits.{is_digit, worth, two_digits, two_at}
 use Rattle.clock.specs.Grammar.{no_digits}
+use Rattle.ymd.specs.declared.Ymd.{Ymd}
 
 -- ---- the signed form
 
@@ -13,14 +14,8 @@ unfoldable pub to_hyphen : List ℕ → ℕ
 to_hyphen [] = 0
 to_hyphen (b ∷ t) = cond (eqb b 0x2D) 0 (suc (to_hyphen t))
 
--- a year, a month and a day that a text writes, whether the calendar has them or not
-pub record Numbers : Type 0 where
-  pub year : ℤ
-  pub month : ℕ
-  pub day : ℕ
-
 -- three integers, if each was read
-abbrev pub numbers : Option ℤ → Option ℤ → Option ℤ → Option Numbers
+abbrev pub numbers : Option ℤ → Option ℤ → Option ℤ → Option Ymd
 numbers None m d = None
 numbers (Some y) None d = None
 numbers (Some y) (Some m) None = None
@@ -29,16 +24,16 @@ numbers (Some y) (Some (pos m)) (Some (negsuc d)) = None
 numbers (Some y) (Some (pos m)) (Some (pos d)) = Some (record { year = y; month = m; day = d })
 
 -- a month and a day, parted by the first hyphen, before which n bytes stand
-abbrev pub month_day : Option ℤ → ℕ → List ℕ → Option Numbers
+abbrev pub month_day : Option ℤ → ℕ → List ℕ → Option Ymd
 month_day y n t = cond (ltb n (length t)) (numbers y (integer false 32 (take n t)) (integer false 32 (drop (n + 1) t))) None
 
 -- a sign and a year of at least four bytes, up to the first hyphen after the sign, before which n bytes stand
-abbrev pub signed_year : ℕ → List ℕ → Option Numbers
+abbrev pub signed_year : ℕ → List ℕ → Option Ymd
 signed_year n t =
     cond (leb 4 n && ltb (n + 1) (length t)) (month_day (integer true 32 (take (n + 1) t)) (to_hyphen (drop (n + 2) t)) (drop (n + 2) t)) None
 
 -- what the signed form writes: the Rust's `parse_extended_ymd`
-unfoldable pub extended_ymd : List ℕ → Option Numbers
+unfoldable pub extended_ymd : List ℕ → Option Ymd
 extended_ymd t = signed_year (to_hyphen (drop 1 t)) t
 
 -- ---- the unsigned forms of at most 10 bytes
