@@ -2,31 +2,29 @@
 -- fraction's factor and divisor, and a count is exact or does not fit. Assumes nothing.
 use mathlib.Core.Path.{◌≡◌, refl, sym, ap, ◌∙◌}
 use mathlib.Core.Bool.{true, false}
-use Rattle.std.specs.Prelude.{Option, None, Some}
+use Rattle.std.specs.Prelude.{None, Some}
 use Rattle.std.proofs.lemmas.Option.{none-some, cond_some}
 use Prim.Native.Nat.{ℕ, suc, ◌+◌, ◌*◌, ◌/◌, ◌^◌, ◌≤◌, ◌<◌}
-use native.Mathlib.Nat.{mul-le-mul, mul-le-mul_left, mul-le-mul_right, div-lt_iff_lt-mul, div-le_self}
+use native.Mathlib.Nat.{mul-le-mul_left, mul-le-mul_right, div-lt_iff_lt-mul, div-le_self}
 use native.Mathlib.Omega.{arith}
-use lib.IntN.{ℤ, pos, negsuc, neg_ℤ, nat_abs, ◌+ℤ◌, ◌-ℤ◌, ◌*ℤ◌}
+use lib.IntN.{ℤ, pos, negsuc, nat_abs, ◌+ℤ◌, ◌*ℤ◌}
 use lib.Signed.{mag, quot_z}
 use borrow.Author.Tests.{ltb-true}
 use mir.Syntax.{Width, w64}
-use mir.Val.{SFits, Fits, hbits, to_z}
+use mir.Val.{SFits, hbits, to_z}
 use mir.Facts.{to_z-of_z, to_z_pos}
 use Rattle.text.proofs.Bools.{by_test, and_false}
 use Rattle.number.specs.Widths.{in_signed, fit}
-use Rattle.number.proofs.Zed.{abs_neg, abs_zero, size_pn, P, N, P-neg, N-neg, add_pn, mul_p, mul_n, lt_yes, lt_no, eq_of, fits_of}
-use Rattle.number.proofs.Ranges.{rd, fit_yes, fit_above, fit_below}
-use Rattle.number.proofs.Sizes.{small_fits, too_large}
+use Rattle.number.proofs.Zed.{abs_neg, abs_zero, P, N, add_pn, mul_p, mul_n, eq_of}
+use Rattle.number.proofs.Ranges.{rd, fit_yes}
+use Rattle.number.proofs.Sizes.{small_fits}
 use Rattle.amount.specs.Grammar.{precision}
 use Rattle.amount.specs.declared.held.IntervalAmount.{IntervalAmount}
 use Rattle.text.proofs.Values.{ten_pos}
-use Rattle.amount.proofs.AmountLaws.{abs_signed}
-use Rattle.amount.proofs.Amounts.{size_flips, size_minus}
 use Rattle.amount.specs.Read.{value_of, SameSign}
 use Rattle.rule.specs.Contribution.{Counts, counts, times, whole_times, frac_times, fits, plus}
 use Rattle.total.specs.Helpers.{Ratio, fitting, added}
-use Rattle.rule.proofs.Cuts.{mul_signed, add_signed, part_signed, times_cut, frac_ratio}
+use Rattle.rule.proofs.Cuts.{part_signed, times_cut, frac_ratio}
 
 add_none : (z : ℤ) → z +ℤ pos 0 ≡ z
 add_none z = eq_of (z +ℤ pos 0) z (omega (arith, add_pn z (pos 0)))
@@ -205,7 +203,6 @@ module _ (c k : Counts) where
       by_test (fits k)
       (λ f. absurd (none-some k (e ∙ rw f)))
       (λ f. rw f)
-
 
 -- ---- a count of 32 bits: x times k, and p
 

@@ -1,7 +1,7 @@
 -- What the functions behind the reader find on the way: its contract names none of it. Assumes nothing.
-use Rattle.std.specs.Prelude.{◌≡◌, Bool, true, false, cond, ◌&&◌, ℕ, ◌+◌, ◌*◌, ◌^◌, ◌≤◌, ◌<◌, ℤ, nat_abs, Option, None, Some, option_map, Result, Ok, Err}
+use Rattle.std.specs.Prelude.{◌≡◌, Bool, true, false, cond, ◌&&◌, ℕ, ◌*◌, ◌^◌, ◌≤◌, ◌<◌, Option, None, Some, option_map, Result, Ok, Err}
 use Rattle.amount.specs.Grammar.{precision}
-use Rattle.rule.specs.Contribution.{Counts, counts, fits, plus}
+use Rattle.rule.specs.Contribution.{Counts, fits, plus}
 use Rattle.total.specs.Read.{counts_of}
 use Rattle.total.specs.declared.Interval.{Interval}
 

@@ -1,5 +1,5 @@
 // The components of a text, added up as they are read: Rust's `parse_interval_components` and the fold of `Interval::parse`, in one pass.
-ghost use Rattle.std.specs.Prelude.{◌≡◌, cond};
+ghost use Rattle.std.specs.Prelude.{◌≡◌, cond, None, Some};
 ghost use Rattle.refusal.specs.Outcome.{refused};
 ghost use Rattle.amount.specs.Grammar.{precision};
 ghost use Rattle.amount.specs.Read.{value_of};
@@ -16,8 +16,17 @@ use count::{Days, Months, Nanos};
 use place::IntervalRefusal;
 use unit::IntervalUnit;
 
+// Where the first component begins with which a unit came again, with one component more, which begins at a place.
+#[tactic(auto, using(crate::proofs::Folding::or_is))]
+pub fn first_again(repeated: Option<usize>, again: bool, at: usize) -> Option<usize>
+    ensures { result ≡ or_later repeated (cond again (Some at) None) }
+{
+    repeated.or(again.then_some(at))
+}
+
 // The running totals with one component more, which begins at a place; or where the first begins with which a contribution or a total
 // did not fit.
+#[tactic(auto, unfolding(crate::specs::Helpers::on_added, place::specs::Where::or_later))]
 pub fn add_component(
     total: Result<Interval, usize>,
     amount: IntervalAmount,
@@ -72,12 +81,12 @@ pub fn parse_interval_components(
             Piece::Last(amount, word) => {
                 let unit = word.unwrap_or(default_unit);
                 let k = unit.mark();
-                let again = repeated.or(seen[k].then_some(start));
+                let again = first_again(repeated, seen[k], start);
                 return settled(again, add_component(total, amount, unit, start));
             }
             Piece::More(amount, unit, _) => {
                 let k = unit.mark();
-                repeated = repeated.or(seen[k].then_some(start));
+                repeated = first_again(repeated, seen[k], start);
                 seen[k] = true;
                 total = add_component(total, amount, unit, start);
             }

@@ -7,7 +7,7 @@ use Rattle.unit.proofs.WordLaws.{or_else_lem}
 use Rattle.amount.specs.Grammar.{precision}
 use Rattle.component.specs.Read.{LastIs, MoreIs, piece_is, place_after, taken_is}
 use Rattle.total.specs.Helpers.{totals_of, unfit_of, came}
-use Rattle.total.proofs.Folding.{came_or, or_is, rank_below, starts, starts_place, bad_answer, bad_place, last_answer, last_utf8, last_place, more_goes, more_place}
+use Rattle.total.proofs.Folding.{came_or, rank_below, starts, starts_place, bad_answer, bad_place, last_answer, last_utf8, last_place, more_goes, more_place}
 use Rattle.total.proofs.components.parse_interval_components.Goals as goal
 
 pub loop-piece-init : goal.loop-piece-init
@@ -34,7 +34,7 @@ returns-in-Last c = let i = c.loop-piece.invariant in
     let L : LastIs precision c.args.value.now c.loop-piece.at a c.in-Last.word = e.0 in
     let r = c.loop-piece.repeated in
     let u = c.unwrap_or-unit.ensures ∙ or_else_lem c.args.default_unit c.in-Last.word in
-    let o = rw (c.then_some.ensures, or_is r (get_or c.loop-piece.seen c.mark-k.result false) c.loop-piece.at) at c.or-again.ensures in
+    let o = c.first_again-again.ensures in
     let R = rw (o, came_or r (get_or c.loop-piece.seen c.mark-k.result false) c.loop-piece.at) at c.settled.ensures.0 in
     let A = last_answer c.args.value.now c.args.default_unit c.loop-piece.at c.loop-piece.seen (came r) (totals_of c.loop-piece.total) i.2 a c.unwrap_or-unit.result c.mark-k.ensures c.add_component.ensures.0 L u R in (
       A,
@@ -64,7 +64,7 @@ loop-piece-preserved c = let t = c.add_component-total.ensures in
     let e = rw (c.in-Ok.is, c.in-More.is) at c.component-taken.ensures in
     let M : MoreIs precision c.args.value.now c.loop-piece.at a v c.in-More.field-2 = e.0 in
     let r = c.loop-piece.repeated in
-    let o = rw (c.then_some-in-More.ensures, or_is r (get_or c.loop-piece.seen c.mark-k-in-More.result false) c.loop-piece.at) at c.or-repeated.ensures in
+    let o = c.first_again-repeated.ensures in
     rw e.1 (
       M.inside,
       length-set c.loop-piece.seen c.mark-k-in-More.result true ∙ i.1,

@@ -9,9 +9,8 @@ use mir.Val.{SFits}
 use Rattle.number.specs.Widths.{fit}
 use Rattle.amount.specs.Grammar.{precision}
 use Rattle.amount.specs.Read.{value_of}
-use Rattle.amount.proofs.AmountLaws.{one_sign_lem}
-use Rattle.rule.specs.Contribution.{times, whole_times, frac_times}
-use Rattle.total.proofs.Adding.{part_most, part_times, whole_once, cut_whole, cut_times, cut_fits, same_sign, whole_fits_lem, ratio_small, fit_read, three, no_months, no_days, no_nanos}
+use Rattle.rule.specs.Contribution.{whole_times, frac_times}
+use Rattle.total.proofs.Adding.{cut_whole, cut_fits, fit_read, three, no_days}
 use Rattle.total.proofs.contributions.days_and_nanos.Goals as goal
 
 pub returns-in_err-count32 : goal.returns-in_err-count32

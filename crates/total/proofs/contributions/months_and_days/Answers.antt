@@ -3,15 +3,13 @@ use mathlib.Core.Path.{refl, ap, ◌∙◌}
 use native.Mathlib.Omega.{arith}
 use borrow.Author.Rules.{rules}
 use lib.IntN.{pos}
-use Prim.Native.Nat.{◌*◌}
 use mir.Syntax.{w32, w64}
 use mir.Val.{SFits}
 use Rattle.number.specs.Widths.{fit}
 use Rattle.amount.specs.Grammar.{precision}
 use Rattle.amount.specs.Read.{value_of}
-use Rattle.amount.proofs.AmountLaws.{one_sign_lem}
-use Rattle.rule.specs.Contribution.{times, whole_times, frac_times}
-use Rattle.total.proofs.Adding.{part_most, part_times, whole_once, cut_whole, cut_times, cut_fits, same_sign, whole_fits_lem, ratio_small, fit_read, three, no_months, no_days, no_nanos}
+use Rattle.rule.specs.Contribution.{whole_times, frac_times}
+use Rattle.total.proofs.Adding.{part_times, whole_once, fit_read, three, no_months}
 use Rattle.total.proofs.contributions.months_and_days.Goals as goal
 
 pub returns-in_err-narrow : goal.returns-in_err-narrow
