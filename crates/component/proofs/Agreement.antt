@@ -5,7 +5,6 @@ use mathlib.Core.Bool.{Bool, true, false, not}
 use mathlib.Core.Logic.{◌⊎◌, inl, inr, ⊎_elim, ◌↔◌}
 use mathlib.Core.List.{List, [], ◌∷◌, ◌++◌, append_assoc, append-nil}
 use Rattle.std.specs.Prelude.{Option, None, Some}
-use mathlib.Core.Option.{none-ne-some}
 use Prim.Native.Nat.{ℕ, zero, suc, ◌+◌, ◌≤◌, ◌<◌}
 use native.Mathlib.Nat.{add-zero, add_assoc}
 use native.Mathlib.Omega.{arith}
@@ -169,12 +168,12 @@ module _ {n : ℕ} where
 
 before_is : (c : Component) (o : Option (List Component)) (d : List Component) → before c o ≡ Some d → (e : List Component) × (o ≡ Some e) × (d ≡ c ∷ e)
 unfolding before
-before_is c None d e = absurd (none-ne-some d e)
+before_is c None d e = cc
 before_is c (Some r) d e = (r, refl, cc)
 
 then_sound : {n : ℕ} (t : List ℕ) (s : Step) → StepIs n t s → (f : ℕ → Option (List Component)) → ((k : ℕ) (d : List Component) → f k ≡ Some d → Divides n (drop k t) d) → (d : List Component) → then s f ≡ Some d → Divides n t d
 unfolding then
-then_sound t s is_bad f h d e = absurd (none-ne-some d e)
+then_sound t s is_bad f h d e = cc
 then_sound t s (is_stop {c} D) f h d e = let q : c ∷ [] ≡ d = cc in rw q at D
 then_sound {n} t s (is_go {c} {k} u w r C W et ek) f h d e =
     let g = before_is c (f k) d e in
@@ -184,7 +183,7 @@ then_sound {n} t s (is_go {c} {k} u w r C W et ek) f h d e =
 
 pub sound : {n : ℕ} (j : ℕ) (t : List ℕ) (d : List Component) → divide_by n j t ≡ Some d → Divides n t d
 unfolding divide_by
-sound zero t d e = absurd (none-ne-some d e)
+sound zero t d e = cc
 sound {n} (suc j) t d e = then_sound t (step n t) (step_sound t) (λ k. divide_by n j (drop k t)) (λ k r. sound j (drop k t) r) d e
 
 -- ---- THE DIVISION

@@ -22,9 +22,9 @@ use Rattle.component.specs.Division.{step, bad}
 use Rattle.component.specs.Spelled.{spelled, unit_for}
 use Rattle.component.specs.Fault.{in_amount, fault}
 use Rattle.component.specs.Read.{Holds, LastIs, MoreIs}
-use Rattle.amount.specs.Read.{ReadIs}
+use Rattle.amount.specs.Read.{ReadIs, value_of}
 use Rattle.amount.specs.Scan.{amount_len}
-use Rattle.amount.specs.declared.IntervalAmount.{IntervalAmount}
+use Rattle.amount.specs.declared.held.IntervalAmount.{IntervalAmount}
 use Rattle.amount.proofs.AmountLaws.{same_sign, frac_small}
 use Rattle.component.proofs.Steps.{amount_last, word_bad, unit_last, unit_more}
 use Rattle.component.proofs.Faults.{overmeasured, fault_first, fault_unit}
@@ -40,7 +40,7 @@ unfolding unit_for spelled or_else
 unit_spelled w u a s e = rw e
 
 -- an amount from at to e
-module _ (s : List ℕ) (at : ℕ) (a : IntervalAmount) (e : ℕ) (R : ReadIs precision s at a e) where
+module _ (s : List ℕ) (at : ℕ) (a : IntervalAmount) (e : ℕ) (R : ReadIs precision s at (value_of a) e) where
   -- nothing follows
   pub alone : length s ≤ e → LastIs precision s at a None
   unfolding or_else

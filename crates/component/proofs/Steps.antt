@@ -4,7 +4,6 @@ use mathlib.Core.Path.{◌≡◌, refl, sym, ap, ◌∙◌}
 use mathlib.Core.Bool.{true, false, not}
 use mathlib.Core.List.{List, [], ◌∷◌, ◌++◌}
 use Rattle.std.specs.Prelude.{Option, None, Some}
-use mathlib.Core.Option.{none-ne-some}
 use Prim.Native.Nat.{ℕ, zero, suc, ◌+◌, ◌-◌, ◌≤◌, ◌<◌}
 use native.Mathlib.Omega.{arith}
 use lib.Dec.{eqb}
@@ -27,7 +26,7 @@ enough n j t h = from (divide_by n j t) refl (divide n t) refl
     from : (o : Option (List Component)) → divide_by n j t ≡ o → (q : Option (List Component)) → divide n t ≡ q → divide_by n j t ≡ divide n t
     from (Some d) e q f = e ∙ sym ((agrees n t d).0 (sound j t d e))
     from None e None f = e ∙ sym f
-    from None e (Some d) f = absurd (none-ne-some d (sym e ∙ computed t d j ((agrees n t d).1 f) h))
+    from None e (Some d) f = let q = sym e ∙ computed t d j ((agrees n t d).1 f) h in cc
 
 -- how far a step goes
 go_far : {n : ℕ} (t : List ℕ) (s : Step) → StepIs n t s → (c : Component) (k : ℕ) → s ≡ go c k → (0 < k) × (k ≤ length t)

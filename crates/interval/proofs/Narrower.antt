@@ -2,7 +2,7 @@
 use mathlib.Core.Path.{◌≡◌, refl, sym, ap, ◌∙◌}
 use mathlib.Core.Bool.{true, false}
 use Rattle.std.specs.Prelude.{Option, None, Some}
-use mathlib.Core.Option.{none-ne-some}
+use Rattle.std.proofs.lemmas.Option.{none-some}
 use mathlib.Core.List.{List}
 use Prim.Native.Nat.{ℕ, suc, ◌%◌, ◌^◌}
 use native.Mathlib.Omega.{arith}
@@ -91,13 +91,13 @@ module _ {m : ℤ} (fm : SFits w32 m) (d : ℤ) where
       let q : z ≡ m *ℤ pos 30 = some_is (e ∙ rw h) in
       let f : SFits w32 (m *ℤ pos 30) = record { sfits = ltb-true (mag (m *ℤ pos 30)) (2 ^ 31) h } in
       rw (q, to_z-of_z f, h))
-      (λ h. absurd (none-ne-some z (sym (e ∙ rw h)))))
+      (λ h. absurd (none-some z (sym (e ∙ rw h)))))
 
   pub days_over : None ≡ fit 31 (rd w32 m *ℤ pos 30) → None ≡ in_days m d
   unfolding in_days
   days_over =
       rw (to_z-of_z fm) (λ e. by_test (in_signed 31 (m *ℤ pos 30))
-      (λ h. absurd (none-ne-some (m *ℤ pos 30) (e ∙ rw h)))
+      (λ h. absurd (none-some (m *ℤ pos 30) (e ∙ rw h)))
       (λ h. rw h))
 
 -- ---- nanoseconds over 1,000,000

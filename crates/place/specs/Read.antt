@@ -3,8 +3,6 @@ use Rattle.std.specs.Prelude.{Option, None, Some, ℕ}
 use Rattle.refusal.specs.Outcome.{Outcome, because}
 use Rattle.refusal.specs.declared.Refusal.{Refusal}
 use Rattle.refusal.specs.declared.Refusal.TheVariants.{NotUtf8, Interval, RepeatedUnit, Overflow, Narrowed}
-use Rattle.place.specs.declared.MaybePlace.{MaybePlace}
-use Rattle.place.specs.declared.MaybePlace.TheVariants.{Some as SomePlace, None as NoPlace}
 use Rattle.place.specs.declared.IntervalRefusal.{IntervalRefusal}
 use Rattle.place.specs.declared.IntervalRefusal.TheVariants.{NotUtf8 as NotUtf8At, Interval as IntervalAt, RepeatedUnit as RepeatedUnitAt, Overflow as OverflowAt, Narrowed as NarrowedAt}
 
@@ -23,11 +21,6 @@ place_in (IntervalAt p) = Some p
 place_in (RepeatedUnitAt p) = Some p
 place_in (OverflowAt p) = Some p
 place_in NarrowedAt = None
-
--- the place that the code holds, if it holds one
-abbrev pub maybe_place : MaybePlace → Option ℕ
-maybe_place (SomePlace p) = Some p
-maybe_place NoPlace = None
 
 -- a refusal as an outcome, without its place
 abbrev pub because_of : {A : Type 0} → IntervalRefusal → Outcome A

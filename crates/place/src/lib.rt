@@ -4,12 +4,12 @@
 ghost use Rattle.std.specs.Prelude.{◌≡◌, cond, None, Some};
 ghost use Rattle.refusal.specs.Outcome.{number_of, number_in};
 ghost use Rattle.utf8.specs.Utf8.{utf8};
-ghost use Rattle.place.specs.Read.{refusal_of, place_in, maybe_place};
+ghost use Rattle.place.specs.Read.{refusal_of, place_in};
 
 use refusal::Refusal;
 
 // A refusal of an interval text: 8, 9 and 10 have a place, counted in bytes of the text, and 1 and 11 have none.
-#[derive(Clone, Copy)]
+#[derive(Clone, Copy, Debug, PartialEq, Eq)]
 pub enum IntervalRefusal {
     // The bytes are not well-formed UTF-8.
     NotUtf8,
@@ -21,13 +21,6 @@ pub enum IntervalRefusal {
     Overflow(usize),
     // The narrowed interval form cannot hold the result.
     Narrowed,
-}
-
-// A place, or none.
-#[derive(Clone, Copy)]
-pub enum MaybePlace {
-    Some(usize),
-    None,
 }
 
 impl IntervalRefusal {
@@ -52,15 +45,15 @@ impl IntervalRefusal {
     }
 
     // Its place, where it has one.
-    pub fn place(self) -> MaybePlace
-        ensures { maybe_place result ≡ place_in self }
+    pub fn place(self) -> Option<usize>
+        ensures { result ≡ place_in self }
     {
         match self {
-            IntervalRefusal::NotUtf8 => MaybePlace::None,
-            IntervalRefusal::Interval(at) => MaybePlace::Some(at),
-            IntervalRefusal::RepeatedUnit(at) => MaybePlace::Some(at),
-            IntervalRefusal::Overflow(at) => MaybePlace::Some(at),
-            IntervalRefusal::Narrowed => MaybePlace::None,
+            IntervalRefusal::NotUtf8 => None,
+            IntervalRefusal::Interval(at) => Some(at),
+            IntervalRefusal::RepeatedUnit(at) => Some(at),
+            IntervalRefusal::Overflow(at) => Some(at),
+            IntervalRefusal::Narrowed => None,
         }
     }
 

@@ -4,7 +4,7 @@ use mathlib.Core.Bool.{Bool, true, false, cond, ◌&&◌, ◌||◌, false≢true
 use mathlib.Core.Logic.{⊎_elim, ◌↔◌}
 use mathlib.Core.List.{List, [], ◌∷◌, ◌++◌}
 use Rattle.std.specs.Prelude.{Option, None, Some}
-use mathlib.Core.Option.{none-ne-some}
+use Rattle.std.proofs.lemmas.Option.{none-some}
 use Prim.Native.Nat.{ℕ, suc, ◌*◌, ◌/◌, ◌%◌}
 use native.Mathlib.Omega.{arith}
 use lib.Dec.{eqb}
@@ -140,8 +140,8 @@ module _ (n : ℕ) (u : IntervalUnit) where
       by_test (fits k)
       (λ f. by_test (fits (plus c k))
       (λ g. add A f g (totals_runs (plus c k) e M (simp (gives_value p A, f, g) at h)))
-      (λ g. absurd (none-ne-some e (simp (gives_value p A, f, g) at h))))
-      (λ f. absurd (none-ne-some e (simp (gives_value p A, f) at h)))
+      (λ g. absurd (none-some e (simp (gives_value p A, f, g) at h))))
+      (λ f. absurd (none-some e (simp (gives_value p A, f) at h)))
 
 -- ---- the answer
 
@@ -179,7 +179,7 @@ module _ (n : ℕ) (u : IntervalUnit) (t : List ℕ) where
 
   totals_mean : (d : List Component) → Divides n t d → twice u d ≡ false → (o : Option Counts) → totals n u zeros d ≡ o → Means n u t (on_totals o)
   unfolding on_totals
-  totals_mean d D e None h = unfit D (not_twice u e) (λ c R. none-ne-some c (sym h ∙ runs_totals n u R))
+  totals_mean d D e None h = unfit D (not_twice u e) (λ c R. none-some c (sym h ∙ runs_totals n u R))
   totals_mean d D e (Some c) h = totalled D (not_twice u e) (totals_runs n u zeros c (amounts D) h)
 
   units_mean : (d : List Component) → Divides n t d → (b : Bool) → twice u d ≡ b → Means n u t (cond b (refused 9) (on_totals (totals n u zeros d)))
@@ -188,7 +188,7 @@ module _ (n : ℕ) (u : IntervalUnit) (t : List ℕ) where
 
   division_means : utf8 t ≡ true → (o : Option (List Component)) → divide n t ≡ o → Means n u t (on_division n u o)
   unfolding on_division
-  division_means w None h = undivided ((Utf8Agrees.agrees t).1 w) (λ d D. none-ne-some d (sym h ∙ (agrees n t d).0 D))
+  division_means w None h = undivided ((Utf8Agrees.agrees t).1 w) (λ d D. none-some d (sym h ∙ (agrees n t d).0 D))
   division_means w (Some d) h = units_mean d ((agrees n t d).1 h) (twice u d) refl
 
   -- a text has an answer
@@ -214,7 +214,7 @@ module _ {A : Type 0} (Holds : Counts → A → Type 0) (hold : Counts → Optio
 
   held_means : {c : Counts} → Means n u t (accepted c) → (o : Option A) → hold c ≡ o → Narrows Holds n u t (or_narrowed o)
   unfolding or_narrowed
-  held_means {c} M None e = unheld M (λ v H. none-ne-some v (sym e ∙ (holds c v).0 H))
+  held_means {c} M None e = unheld M (λ v H. none-some v (sym e ∙ (holds c v).0 H))
   held_means {c} M (Some v) e = held M ((holds c v).1 e)
 
   outcome_means : (o : Outcome Counts) → Means n u t o → Narrows Holds n u t (narrowed hold o)
@@ -238,8 +238,8 @@ in_months c v e =
     by_test (eqb (nat_abs c.days) 0)
     (λ p. by_test (eqb (nat_abs c.nanos) 0)
     (λ q. from c.months c.days c.nanos (abs_zero c.days (eqb-true (nat_abs c.days) 0 p)) (abs_zero c.nanos (eqb-true (nat_abs c.nanos) 0 q)) (rw (p, q) at e))
-    (λ q. absurd (none-ne-some v (rw (p, q) at e))))
-    (λ p. absurd (none-ne-some v (rw p at e)))
+    (λ q. absurd (none-some v (rw (p, q) at e))))
+    (λ p. absurd (none-some v (rw p at e)))
   where
     from : (m d k : ℤ) → d ≡ pos 0 → k ≡ pos 0 → Some m ≡ Some v → YearMonths (counts m d k) v
     from m d k p q r = let w : m ≡ v = cc in rw (p, q, w) months_alone
@@ -298,7 +298,7 @@ unfolding to_day_time
 to_day_time_lem c v e =
     by_test (day_time_fits c)
     (λ f. let g : Some (day_time_of (c.months *ℤ pos 30 +ℤ c.days) (quot_z c.nanos (pos 1_000_000))) ≡ Some v = rw f at e in in_day_time c.months c.days c.nanos v f (cc))
-    (λ f. absurd (none-ne-some v (rw f at e)))
+    (λ f. absurd (none-some v (rw f at e)))
 
 pub day_time_lem : (n : ℕ) (u : IntervalUnit) (t : List ℕ) (r : Outcome DayTime) → Narrows DayTimes n u t r ↔ (narrowed to_day_time (month_day_nano n u t) ≡ r)
 day_time_lem = narrows DayTimes to_day_time (λ c v. (is_day_time, to_day_time_lem c v))

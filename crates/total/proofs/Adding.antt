@@ -3,7 +3,7 @@
 use mathlib.Core.Path.{◌≡◌, refl, sym, ap, ◌∙◌}
 use mathlib.Core.Bool.{true, false}
 use Rattle.std.specs.Prelude.{Option, None, Some}
-use mathlib.Core.Option.{none-ne-some}
+use Rattle.std.proofs.lemmas.Option.{none-some}
 use Prim.Native.Nat.{ℕ, suc, ◌+◌, ◌*◌, ◌/◌, ◌^◌, ◌≤◌, ◌<◌}
 use native.Mathlib.Nat.{mul-le-mul, mul-le-mul_left, mul-le-mul_right, div-lt_iff_lt-mul, div-le_self}
 use native.Mathlib.Omega.{arith}
@@ -173,14 +173,14 @@ module _ (c k : Counts) where
   adds {m} e =
       by_test (fits k)
       (λ f. let q : Some m ≡ Some k = e ∙ rw f in let r : m ≡ k = cc in rw (r, f))
-      (λ f. absurd (none-ne-some m (sym (e ∙ rw f))))
+      (λ f. absurd (none-some m (sym (e ∙ rw f))))
 
   -- or it does not
   pub over : None ≡ fitting k → None ≡ added c k
   unfolding fitting added
   over e =
       by_test (fits k)
-      (λ f. absurd (none-ne-some k (e ∙ rw f)))
+      (λ f. absurd (none-some k (e ∙ rw f)))
       (λ f. rw f)
 
 -- ---- a count of 32 bits: x times k, and p

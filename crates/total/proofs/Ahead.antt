@@ -4,7 +4,7 @@ use mathlib.Core.Path.{◌≡◌, refl, sym, ◌∙◌}
 use mathlib.Core.Bool.{Bool, cond, ◌&&◌}
 use mathlib.Core.List.{List, [], ◌∷◌}
 use Rattle.std.specs.Prelude.{Option, None, Some}
-use mathlib.Core.Option.{none-ne-some}
+use Rattle.std.proofs.lemmas.Option.{none-some}
 use Prim.Native.Nat.{ℕ}
 use Rattle.text.proofs.Bools.{by_test}
 use Rattle.unit.specs.declared.IntervalUnit.{IntervalUnit}
@@ -97,8 +97,8 @@ module _ (n : ℕ) (u : IntervalUnit) where
 module _ (c k : Counts) (at : ℕ) where
   pub fits_with : {e : Counts} → Some e ≡ added c k → None ≡ unfit_with (Some c) k at
   unfolding added unfit_with
-  fits_with {e} h = by_test (fits k && fits (plus c k)) (λ f. rw f) (λ f. absurd (none-ne-some e (sym (h ∙ rw f))))
+  fits_with {e} h = by_test (fits k && fits (plus c k)) (λ f. rw f) (λ f. absurd (none-some e (sym (h ∙ rw f))))
 
   pub over_with : None ≡ added c k → Some at ≡ unfit_with (Some c) k at
   unfolding added unfit_with
-  over_with h = by_test (fits k && fits (plus c k)) (λ f. absurd (none-ne-some (plus c k) (h ∙ rw f))) (λ f. rw f)
+  over_with h = by_test (fits k && fits (plus c k)) (λ f. absurd (none-some (plus c k) (h ∙ rw f))) (λ f. rw f)

@@ -5,7 +5,6 @@ use mathlib.Core.Bool.{true}
 use mathlib.Core.Logic.{◌↔◌}
 use mathlib.Core.List.{List, [], ◌∷◌}
 use Rattle.std.specs.Prelude.{None, Some}
-use mathlib.Core.Option.{none-ne-some}
 use Prim.Native.Nat.{ℕ, zero, suc, ◌+◌, ◌≤◌}
 use native.Mathlib.Omega.{arith}
 use lib.Dec.{eqb}
@@ -50,7 +49,7 @@ units_ranked = (refl, (refl, (refl, (refl, (refl, (refl, (refl, (refl, (refl, (r
 
 rank_at : (k : ℕ) (l : List IntervalUnit) → Ranked k l → (n : ℕ) {u : IntervalUnit} → place l n ≡ Some u → rank u ≡ k + n
 unfolding Ranked place
-rank_at k [] R n {u} e = absurd (none-ne-some u e)
+rank_at k [] R n {u} e = cc
 rank_at k (v ∷ l) R zero e = rw (← some_is e) (omega (arith, R.0))
 rank_at k (v ∷ l) R (suc n) e = omega (arith, rank_at (suc k) l R.1 n e)
 

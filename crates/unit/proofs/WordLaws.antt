@@ -2,7 +2,7 @@
 -- Assumes nothing.
 use mathlib.Core.Path.{◌≡◌, refl, sym, ◌∙◌}
 use mathlib.Core.List.{List, [], ◌∷◌}
-use Rattle.std.specs.Prelude.{Option, None, Some}
+use Rattle.std.specs.Prelude.{Option, None, Some, unwrap_or}
 use Prim.Native.Nat.{ℕ, ◌+◌, ◌-◌, ◌≤◌, ◌<◌}
 use native.Mathlib.Omega.{arith}
 use lib.Dec.{eqb, leb}
@@ -11,7 +11,7 @@ use lib.Seq.{drop-drop, take-add, length-take-le}
 use borrow.Author.Tests.{eqb-true, eqb-false, leb-true, leb-false}
 use Rattle.white.specs.WhiteSpace.{white_len}
 use Rattle.text.proofs.Bools.{by_test}
-use Rattle.unit.specs.Units.{spellings, same, one_of, find, lower, unit_of, word_len}
+use Rattle.unit.specs.Units.{spellings, same, one_of, find, lower, unit_of, or_else, word_len}
 use Rattle.unit.specs.Keys.{by_key, LettersIs}
 use Rattle.unit.specs.Read.{word_end, word_of, Followed}
 use Rattle.unit.specs.declared.IntervalUnit.{IntervalUnit}
@@ -97,3 +97,10 @@ module _ (s : List ℕ) (f : ℕ) (r : Letters) (L : LettersIs s f r) where
           further = rw (← ends z) (omega (arith, n));
           inside = omega arith;
         }
+
+-- ---- the unit found, else the default: Rust's `unwrap_or` on it
+
+pub or_else_lem : (u : IntervalUnit) (o : Option IntervalUnit) → unwrap_or o u ≡ or_else u o
+unfolding or_else
+or_else_lem u None = refl
+or_else_lem u (Some v) = refl
