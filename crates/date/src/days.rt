@@ -11,6 +11,7 @@ use text::digits::digit;
 use timestamp::stamp::string_to_datetime;
 
 // The day that a text names, counted from 1970-01-01: of a signed date, of a date of at most 10 bytes, or of a stamp.
+#[tactic(auto, unfolding(crate::specs::Answer::plain_day))]
 pub fn parse_date(starts: &YearStarts, s: &[u8]) -> Result<i64, Refusal>
     ensures { outcome result ≡ day_named s.now }
 {
@@ -24,6 +25,7 @@ pub fn parse_date(starts: &YearStarts, s: &[u8]) -> Result<i64, Refusal>
 // The outcome of a text, by the day that was found. Bytes that are ignored behind a date are no digits, so that an accepted text which
 // ends in a digit is ASCII: UTF-8 is looked at in the others alone.
 #[inline]
+#[tactic(auto, using(crate::proofs::Agreement::read_utf8))]
 fn of_text(s: &[u8], day: Option<i64>) -> Result<i64, Refusal>
     requires { on_day day ≡ plain_day s.now }
     ensures { outcome result ≡ day_named s.now }
