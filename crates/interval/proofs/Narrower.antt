@@ -19,7 +19,6 @@ use Rattle.text.proofs.Bools.{by_test, and_false}
 use Rattle.number.specs.Widths.{in_signed, fit}
 use Rattle.number.proofs.Zed.{abs_neg}
 use Rattle.number.proofs.Ranges.{rd}
-use Rattle.number.proofs.Quotients.{quot_fits}
 use Rattle.number.proofs.Sizes.{small_fits}
 use Rattle.refusal.specs.Outcome.{Outcome, accepted, refused}
 use Rattle.unit.specs.declared.IntervalUnit.{IntervalUnit}
@@ -87,14 +86,6 @@ not_zero w z h = ne_eqb (nat_abs z) 0 (λ e. h (zero z e))
 -- ---- months alone
 
 module _ (m d n : ℤ) where
-  pub some_days : (of_z w32 d ≡ 0 → ⊥) → None ≡ to_year_months (counts m d n)
-  unfolding to_year_months
-  some_days h = rw (not_zero w32 d h)
-
-  pub some_nanos : (of_z w64 n ≡ 0 → ⊥) → None ≡ to_year_months (counts m d n)
-  unfolding to_year_months
-  some_nanos h = rw (not_zero w64 n h, and_false (eqb (nat_abs d) 0))
-
   pub months_alone : SFits w32 d → SFits w64 n → of_z w32 d ≡ 0 → of_z w64 n ≡ 0 → Some m ≡ to_year_months (counts m d n)
   unfolding to_year_months
   months_alone fd fn h k = rw (is_zero w32 fd h, is_zero w64 fn k)
@@ -103,25 +94,6 @@ module _ (m d n : ℤ) where
 
 some_is : {x y : ℤ} → Some x ≡ Some y → x ≡ y
 some_is e = cc
-
--- the months m times 30 fit, as z
-module _ {m : ℤ} (fm : SFits w32 m) (d : ℤ) where
-  pub days_fit : {z : ℤ} → Some z ≡ fit 31 (rd w32 m *ℤ pos 30) → fit 31 (rd w32 z +ℤ d) ≡ in_days m d
-  unfolding in_days
-  days_fit {z} =
-      rw (to_z-of_z fm) (λ e. by_test (in_signed 31 (m *ℤ pos 30))
-      (λ h.
-      let q : z ≡ m *ℤ pos 30 = some_is (e ∙ rw h) in
-      let f : SFits w32 (m *ℤ pos 30) = record { sfits = ltb-true (mag (m *ℤ pos 30)) (2 ^ 31) h } in
-      rw (q, to_z-of_z f, h))
-      (λ h. absurd (none-some z (sym (e ∙ rw h)))))
-
-  pub days_over : None ≡ fit 31 (rd w32 m *ℤ pos 30) → None ≡ in_days m d
-  unfolding in_days
-  days_over =
-      rw (to_z-of_z fm) (λ e. by_test (in_signed 31 (m *ℤ pos 30))
-      (λ h. absurd (none-some (m *ℤ pos 30) (e ∙ rw h)))
-      (λ h. rw h))
 
 -- ---- nanoseconds over 1,000,000
 
@@ -135,10 +107,6 @@ module _ {n : ℤ} (f : SFits w64 n) where
 
   rest : nat_abs n % 1_000_000 ≡ nat_abs (rem_z n (pos 1_000_000))
   rest = sym (rem_size n 1_000_000)
-
-  pub no_millis : (of_z w64 (rem_z (rd w64 n) (pos 1_000_000)) ≡ 0 → ⊥) → None ≡ in_millis n
-  unfolding in_millis
-  no_millis = rw (to_z-of_z f) (λ h. rw (rest, not_zero w64 (rem_z n (pos 1_000_000)) h))
 
   -- the quotient is q
   pub millis : {q : ℤ} → q ≡ quot_z (rd w64 n) (pos 1_000_000) → of_z w64 (rem_z (rd w64 n) (pos 1_000_000)) ≡ 0 → fit 31 (rd w64 q) ≡ in_millis n
@@ -160,19 +128,4 @@ both m d n =
 
 -- the same where the code finds them
 
-if_none : (o : Option ℤ) → day_time_if o None ≡ None
-unfolding day_time_if
-if_none None = refl
-if_none (Some d) = refl
-
 module _ (m d n : ℤ) where
-  pub day_time_both : {x y : ℤ} → Some x ≡ in_days m d → Some y ≡ in_millis n → Some (day_time_of x y) ≡ to_day_time (counts m d n)
-  unfolding day_time_if
-  day_time_both e f = rw (← e, ← f) at (both m d n)
-
-  pub day_time_no_days : None ≡ in_days m d → None ≡ to_day_time (counts m d n)
-  unfolding day_time_if
-  day_time_no_days e = rw (← e) at (both m d n)
-
-  pub day_time_no_millis : None ≡ in_millis n → None ≡ to_day_time (counts m d n)
-  day_time_no_millis e = rw (← e, if_none (in_days m d)) at (both m d n)
