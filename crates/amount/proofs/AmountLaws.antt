@@ -1,6 +1,6 @@
 -- Amounts in a text: an amount is measured to its end, what is measured is an amount, and the value computed is the one of the grammar
 -- (`amount_agrees`), the only one (`one_value`). Assumes nothing.
-use mathlib.Core.Path.{◌≡◌, refl, sym, ◌∙◌}
+use mathlib.Core.Path.{◌≡◌, refl, sym, ap, ◌∙◌}
 use mathlib.Core.Bool.{Bool, true, false, cond, false≢true}
 use mathlib.Core.Logic.{◌⊎◌, inl, inr, ⊎_elim, ◌↔◌}
 use mathlib.Core.List.{List, [], ◌∷◌, ◌++◌, append_assoc, append-nil}
@@ -8,7 +8,7 @@ use Prim.Native.Nat.{ℕ, zero, suc, ◌+◌, ◌-◌, ◌*◌, ◌^◌, ◌≤�
 use native.Mathlib.Nat.{mul-lt-mul_of_pos_right}
 use native.Mathlib.Omega.{arith}
 use lib.Dec.{eqb, ltb}
-use lib.IntN.{pos, nat_abs}
+use lib.IntN.{ℤ, pos, negsuc, nat_abs}
 use lib.Pow.{pow-add}
 use lib.ListN.{length, get_or, take, drop, length-append, length-drop, take-append-drop}
 use lib.Seq.{take-append_seam, drop-append_seam, take-append-add, length-take-le, take-length, drop-length, take-add}
@@ -21,8 +21,9 @@ use Rattle.text.proofs.Values.{ten_pos, value_below}
 use Rattle.number.specs.Decimal.{Digits, one_or_more}
 use Rattle.number.specs.Widths.{signed}
 use Rattle.number.proofs.Agreement.{all_digits, some_digits}
-use Rattle.amount.specs.Grammar.{Sign, no_sign, minus, whole_fits, Fraction, Value, valued, scaled, Amount, whole, decimal, fraction}
+use Rattle.amount.specs.Grammar.{precision, Sign, no_sign, minus, whole_fits, Fraction, Value, valued, scaled, Amount, whole, decimal, fraction}
 use Rattle.amount.specs.Scan.{negative, sign_len, point_len, digits_len, amount_len, frac_of, unsigned_of, amount_of}
+use Rattle.amount.specs.Proper.{one_sign, Proper}
 use Rattle.amount.specs.Read.{SameSign}
 use Rattle.utf8.proofs.Ascii.{ascii_then}
 
@@ -250,6 +251,23 @@ same_sign (whole {d} {neg} S W) = record { neg = neg; whole = value 0 d; part = 
 same_sign {n} (decimal {d} {f} {neg} S W F) = record { neg = neg; whole = value 0 d; part = scaled n f; whole_is = refl; part_is = refl }
 same_sign {n} (fraction {f} {neg} S F) = record { neg = neg; whole = 0; part = scaled n f; whole_is = sym (signed_none neg); part_is = refl }
 
+-- the same as a test
+pub one_sign_lem : (i f : ℤ) → one_sign i f ≡ true → SameSign i f
+one_sign_lem (pos i) (pos f) e = record { neg = false; whole = i; part = f; whole_is = refl; part_is = refl }
+one_sign_lem (pos i) (negsuc f) e = record { neg = true; whole = 0; part = suc f; whole_is = ap pos (eqb-true i 0 e); part_is = refl }
+one_sign_lem (negsuc i) (pos f) e = record { neg = true; whole = suc i; part = 0; whole_is = refl; part_is = ap pos (eqb-true f 0 e) }
+one_sign_lem (negsuc i) (negsuc f) e = record { neg = true; whole = suc i; part = suc f; whole_is = refl; part_is = refl }
+
+signed_one : (neg : Bool) (m k : ℕ) → one_sign (signed neg m) (signed neg k) ≡ true
+signed_one false m k = refl
+signed_one true zero zero = refl
+signed_one true zero (suc k) = refl
+signed_one true (suc m) zero = refl
+signed_one true (suc m) (suc k) = refl
+
+pub sign_one : {i f : ℤ} → SameSign i f → one_sign i f ≡ true
+sign_one S = rw (S.whole_is, S.part_is) (signed_one S.neg S.whole S.part)
+
 pub abs_signed : (neg : Bool) (m : ℕ) → nat_abs (signed neg m) ≡ m
 abs_signed true zero = refl
 abs_signed true (suc m) = refl
@@ -271,6 +289,10 @@ pub frac_small : {n : ℕ} {a : List ℕ} {v : Value} → Amount n a v → nat_a
 frac_small {n} (whole S W) = ten_pos n
 frac_small {n} (decimal {f} {neg} S W F) = rw (abs_signed neg (scaled n f)) (scaled_below n f (all_digits F.written) F.most)
 frac_small {n} (fraction {f} {neg} S F) = rw (abs_signed neg (scaled n f)) (scaled_below n f (all_digits F.written) F.most)
+
+-- what is true of each amount that the code holds
+pub proper : {a : List ℕ} {v : Value} → Amount precision a v → Proper v.integer v.frac
+proper A = record { signs = sign_one (same_sign A); small = frac_small A }
 
 -- ---- an amount at the front of a text, as it is read: what follows the sign, what follows the digits, what follows a point
 

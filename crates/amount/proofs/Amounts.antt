@@ -1,16 +1,16 @@
 -- Amounts as the code reads them at a place: digits as a capped number, the whole part with its sign, the fraction. Assumes nothing.
-use mathlib.Core.Path.{◌≡◌, refl, sym, ap, ◌∙◌}
+use mathlib.Core.Path.{◌≡◌, refl, sym, ◌∙◌}
 use mathlib.Core.Bool.{Bool, true, false, cond}
 use mathlib.Core.List.{List, [], ◌∷◌}
-use mathlib.Core.Option.{none, some, none-ne-some}
+use Rattle.std.specs.Prelude.{None, Some, Result, Ok, Err}
 use Prim.Native.Nat.{ℕ, zero, suc, ◌+◌, ◌-◌, ◌*◌, ◌^◌, ◌≤◌, ◌<◌, min}
 use native.Mathlib.Nat.{add-zero}
 use native.Mathlib.Numerals.{add-one}
 use native.Mathlib.Omega.{arith}
 use lib.Dec.{eqb, ltb}
 use lib.IntN.{ℤ, pos, neg_ℤ, ◌-ℤ◌}
-use lib.ListN.{length, get_or, take, drop, get_or-eq_default}
-use lib.Seq.{get_or-drop, drop-drop, drop-cons}
+use lib.ListN.{length, get_or, take, drop, length-drop, get_or-eq_default}
+use lib.Seq.{take_all, get_or-drop, drop-drop, drop-cons}
 use lib.Signed.{mag}
 use mir.Syntax.{w64}
 use mir.Val.{SFits, to_z}
@@ -22,12 +22,12 @@ use Rattle.text.proofs.DigitLaws.{is_worth, run_on, run_off, run_end}
 use Rattle.number.specs.Widths.{in_signed, signed, fit}
 use Rattle.number.proofs.Zed.{P-neg, N-neg, sub-ℤ, eq_of, fits_of}
 use Rattle.number.proofs.Ranges.{rd}
-use Rattle.amount.specs.Grammar.{precision, whole_fits, Value, Amount}
+use Rattle.amount.specs.Grammar.{precision, whole_fits, Value, valued, Amount}
 use Rattle.amount.specs.Scan.{negative, sign_len, amount_len, amount_of}
-use Rattle.amount.specs.Found.{cap, PointAt}
+use Rattle.amount.specs.Found.{cap, PartIs, PointAt}
 use Rattle.amount.specs.Read.{value_of, ReadIs, amount_is}
-use Rattle.amount.specs.declared.AmountRead.{AmountRead}
-use Rattle.amount.specs.declared.AmountRead.TheVariants.{Read as ReadAmount, Bad as NoAmount}
+use Rattle.amount.specs.declared.held.IntervalAmount.{IntervalAmount}
+use Rattle.amount.specs.declared.parts.Number.{Number}
 use Rattle.amount.proofs.AmountLaws.{one_value, measured, behind, whole_value, after_digits, after_point, unfit_len, whole_len, point_len_lem, whole_value_lem, point_value}
 
 -- ---- the number of digits, and as far as the cap
@@ -68,6 +68,10 @@ module _ (s : List ℕ) (i v : ℕ) where
     pub number_more : d < 10 → number_on s i v ≡ number_on s (i + 1) (min (v * 10 + d) cap)
     number_more g = rw (value_more g) (sym (cap_value (take (run (drop (i + 1) s)) (drop (i + 1) s)) (v * 10 + d)))
 
+-- what is left of a text, as the code slices it
+pub rest_is : (s : List ℕ) (i : ℕ) → take (length s - i) (drop i s) ≡ drop i s
+rest_is s i = take_all (length s - i) (drop i s) (omega (arith, length-drop i s))
+
 -- ---- a whole part with its sign
 
 fits_size : (neg : Bool) (m : ℕ) → in_signed 63 (signed neg m) ≡ true → m ≤ 9_223_372_036_854_775_808
@@ -83,28 +87,28 @@ size_over false m h = le-ltb m 9_223_372_036_854_775_808 (omega arith)
 -- m is the number v, or the cap where it is more
 module _ (neg : Bool) (v : ℕ) {m : ℕ} (e : m ≡ min v cap) where
   -- it fits, as z, which the machine reads back
-  pub whole_fits_lem : {z : ℤ} → some z ≡ fit 63 (signed neg m) → (rd w64 z ≡ signed neg v) × (whole_fits neg v ≡ true)
+  pub whole_fits_lem : {z : ℤ} → Some z ≡ fit 63 (signed neg m) → (rd w64 z ≡ signed neg v) × (whole_fits neg v ≡ true)
   unfolding whole_fits
   whole_fits_lem {z} h =
       by_test (in_signed 63 (signed neg m))
       (λ f.
-      let q : some z ≡ some (signed neg m) = h ∙ rw f in
+      let q : Some z ≡ Some (signed neg m) = h ∙ rw f in
       let p : m ≡ v = omega (arith, fits_size neg m f) in
       let g : in_signed 63 (signed neg v) ≡ true = rw p at f in
       let r : z ≡ signed neg v = rw p at (some_is q) in
       let t : SFits w64 (signed neg v) = record { sfits = ltb-true (mag (signed neg v)) (2 ^ 63) g } in
       (rw (r, to_z-of_z t), g))
-      (λ f. absurd (none-ne-some z (sym (h ∙ rw f))))
+      (λ f. let q : Some z ≡ None = h ∙ rw f in cc)
     where
-      some_is : {x y : ℤ} → some x ≡ some y → x ≡ y
+      some_is : {x y : ℤ} → Some x ≡ Some y → x ≡ y
       some_is r = cc
 
   -- or it does not
-  pub whole_over : none ≡ fit 63 (signed neg m) → whole_fits neg v ≡ false
+  pub whole_over : None ≡ fit 63 (signed neg m) → whole_fits neg v ≡ false
   unfolding whole_fits
   whole_over h =
       by_test (in_signed 63 (signed neg m))
-      (λ f. absurd (none-ne-some (signed neg m) (h ∙ rw f)))
+      (λ f. let q : None ≡ Some (signed neg m) = h ∙ rw f in cc)
       (λ f. by_test (in_signed 63 (signed neg v))
       (λ g. let p : m ≡ v = omega (arith, fits_size neg v g) in both_ways (in_signed 63 (signed neg m)) f (rw p g))
       (λ g. g))
@@ -177,7 +181,7 @@ module _ (s : List ℕ) (at from : ℕ) (neg : Bool) (N : neg ≡ negative (drop
       pub no_amount : next ≡ from → amount_len precision (drop at s) ≡ 0
       no_amount e = let z : run (drop from s) ≡ 0 = omega arith in bare_len ∙ rw z
 
-      pub bare : (next ≡ from → ⊥) → next ≤ length s → {z : ℤ} → z ≡ signed neg wv → ReadIs precision s at (record { integer = z; frac = pos 0 }) next
+      pub bare : (next ≡ from → ⊥) → next ≤ length s → {z : ℤ} → z ≡ signed neg wv → ReadIs precision s at (valued z (pos 0)) next
       bare e i Z =
           let l : amount_len precision (drop at s) ≡ sign_len neg + run (drop from s) = bare_len ∙ rw (lt-ltb 0 (run (drop from s)) (omega (arith, e))) in
           let k : next - at ≡ sign_len (negative (drop at s)) + run (behind (drop at s)) = rw (behind_is, ← N) (omega arith) in
@@ -224,7 +228,7 @@ module _ (s : List ℕ) (at from : ℕ) (neg : Bool) (N : neg ≡ negative (drop
     long_behind e = pointed_len ∙ rw (within_over 1 (run (drop p s)) precision e)
 
     -- or 1 to 15
-    pointed_behind : 0 < run (drop p s) → run (drop p s) ≤ precision → {e : ℕ} → e ≡ p + run (drop p s) → e ≤ length s → {z f : ℤ} → z ≡ signed neg wv → f ≡ signed neg (size_on precision s p) → ReadIs precision s at (record { integer = z; frac = f }) e
+    pointed_behind : 0 < run (drop p s) → run (drop p s) ≤ precision → {e : ℕ} → e ≡ p + run (drop p s) → e ≤ length s → {z f : ℤ} → z ≡ signed neg wv → f ≡ signed neg (size_on precision s p) → ReadIs precision s at (valued z f) e
     pointed_behind g l {e} E i Z S =
         let r : amount_len precision (drop at s) ≡ sign_len neg + (run (drop from s) + suc (run (drop p s))) = pointed_len ∙ rw (within_yes 1 (run (drop p s)) precision g l) in
         let j : e - at ≡ sign_len (negative (drop at s)) + (run (behind (drop at s)) + suc (run (after_point (drop at s)))) = rw (after_point_is, behind_is, ← N) (omega arith) in
@@ -240,14 +244,21 @@ module _ {s : List ℕ} {at p : ℕ} {neg : Bool} {z : ℤ} (Q : PointAt s at p 
   place_is : p ≡ at + sign_len neg + (run (drop (at + sign_len neg) s) + 1)
   place_is = omega (arith, Q.place)
 
-  pub no_fraction : run (drop p s) ≡ 0 → amount_len precision (drop at s) ≡ 0
+  no_fraction : run (drop p s) ≡ 0 → amount_len precision (drop at s) ≡ 0
   no_fraction = none_behind s at (at + sign_len neg) neg Q.sign_is refl Q.fitting p place_is Q.point
 
-  pub long_fraction : precision < run (drop p s) → amount_len precision (drop at s) ≡ 0
-  long_fraction = long_behind s at (at + sign_len neg) neg Q.sign_is refl Q.fitting p place_is Q.point
+  pub empty : {r : Number} → PartIs precision (take (length s - p) (drop p s)) r → r.len ≡ 0 → amount_len precision (drop at s) ≡ 0
+  empty P h = let R = rw (rest_is s p) at P in no_fraction (omega (arith, R.len_is))
 
-  pub pointed : 0 < run (drop p s) → run (drop p s) ≤ precision → {e : ℕ} → e ≡ p + run (drop p s) → e ≤ length s → {y f : ℤ} → y ≡ z → f ≡ signed neg (size_on precision s p) → ReadIs precision s at (record { integer = y; frac = f }) e
-  pointed g l E i Y S = pointed_behind s at (at + sign_len neg) neg Q.sign_is refl Q.fitting p place_is Q.point g l E i (Y ∙ Q.integer_is) S
+  pub long_fraction : precision < run (take (length s - p) (drop p s)) → amount_len precision (drop at s) ≡ 0
+  long_fraction h = long_behind s at (at + sign_len neg) neg Q.sign_is refl Q.fitting p place_is Q.point (rw (rest_is s p) at h)
+
+  -- r is what is read behind it, of the text as the code slices it
+  pub pointed : {r : Number} → PartIs precision (take (length s - p) (drop p s)) r → (r.len ≡ 0 → ⊥) → {f : ℤ} → f ≡ signed neg r.value → ReadIs precision s at (valued z f) (p + r.len)
+  pointed {r} P h S =
+      let R = rw (rest_is s p) at P in
+      let e : size_on precision s p ≡ r.value = sym R.value_is in
+      pointed_behind s at (at + sign_len neg) neg Q.sign_is refl Q.fitting p place_is Q.point (omega (arith, R.len_is, h)) R.most (omega (arith, R.len_is)) (omega (arith, R.inside, length-drop p s, Q.inside)) Q.integer_is (rw e S)
 
 -- ---- a size with its sign, as the machine has it
 
@@ -275,14 +286,17 @@ module _ (m : ℕ) (h : m < 2 ^ 63) where
 
 -- ---- the contract of `amount_at` leaves nothing free: two programs that meet it give the same answer for every text and place
 
-pub one_answer : (n : ℕ) (s : List ℕ) (at : ℕ) (r q : AmountRead) → amount_is n s at r → amount_is n s at q → r ≡ q
+-- an answer, an amount by its value
+abbrev pub answered : Result (IntervalAmount × ℕ) ℕ → Result (Value × ℕ) ℕ
+answered (Ok r) = Ok (value_of r.0, r.1)
+answered (Err p) = Err p
+
+pub one_answer : (n : ℕ) (s : List ℕ) (at : ℕ) (r q : Result (IntervalAmount × ℕ) ℕ) → amount_is n s at r → amount_is n s at q → answered r ≡ answered q
 unfolding amount_is
-one_answer n s at (ReadAmount a e) (ReadAmount b f) R Q =
-    let k : e ≡ f = R.end_is ∙ sym Q.end_is in
-    let v : value_of a ≡ value_of b = one_value R.says (rw (← k) at Q.says) in
-    let i : a.integer ≡ b.integer = ap (λ (x : Value). x.integer) v in
-    let j : a.frac ≡ b.frac = ap (λ (x : Value). x.frac) v in
-    rw (k, i, j)
-one_answer n s at (ReadAmount a e) (NoAmount q) R Q = absurd (omega (arith, R.further, R.end_is))
-one_answer n s at (NoAmount p) (ReadAmount b f) R Q = absurd (omega (arith, Q.further, Q.end_is))
-one_answer n s at (NoAmount p) (NoAmount q) R Q = rw (R.1, Q.1)
+one_answer n s at (Ok r) (Ok q) R Q =
+    let k : r.1 ≡ q.1 = R.end_is ∙ sym Q.end_is in
+    let v : value_of r.0 ≡ value_of q.0 = one_value R.says (rw (← k) at Q.says) in
+    rw (k, v)
+one_answer n s at (Ok r) (Err q) R Q = absurd (omega (arith, R.further, R.end_is))
+one_answer n s at (Err p) (Ok q) R Q = absurd (omega (arith, Q.further, Q.end_is))
+one_answer n s at (Err p) (Err q) R Q = rw (R.1, Q.1)

@@ -1,25 +1,18 @@
 -- The digits behind a point as the code reads them, one by one with a running scale. The limit n is the most digits behind a point. Assumes
 -- nothing.
-use mathlib.Core.Path.{◌≡◌, refl, sym, ◌∙◌}
-use mathlib.Core.Bool.{Bool}
-use mathlib.Core.List.{List, []}
+use mathlib.Core.Path.{◌≡◌, refl, sym, ap, ◌∙◌}
+use mathlib.Core.List.{List}
 use Prim.Native.Nat.{ℕ, zero, suc, ◌+◌, ◌-◌, ◌*◌, ◌/◌, ◌^◌, ◌≤◌, ◌<◌}
-use native.Mathlib.Nat.{add-zero, sub-zero, sub_self, pow-zero, pow-succ', pow-le-pow_right}
+use native.Mathlib.Nat.{sub-zero, pow-zero, pow-succ', pow-le-pow_right}
+use native.Mathlib.Numerals.{add-one}
 use native.Mathlib.Omega.{arith}
-use lib.IntN.{ℤ}
-use lib.ListN.{length, get_or, drop}
-use lib.Seq.{get_or-drop}
-use Rattle.text.specs.Digits.{digit_of, digits, run}
+use lib.ListN.{length, get_or, take, drop}
+use Rattle.text.specs.Digits.{digit_of, value, run}
 use Rattle.text.proofs.Values.{ten_pos}
-use Rattle.text.proofs.DigitLaws.{is_digit_lem, no_digit, run_on}
-use Rattle.text.proofs.Places.{inside as within_text}
-use Rattle.text.proofs.Runs.{run_all}
-use Rattle.number.specs.Widths.{signed}
-use Rattle.amount.specs.Grammar.{precision}
-use Rattle.amount.specs.Found.{PointAt}
-use Rattle.amount.specs.Read.{ReadIs}
+use Rattle.text.proofs.DigitLaws.{run_on}
+use Rattle.amount.specs.Found.{PartIs}
 use Rattle.amount.proofs.AmountLaws.{shifted_below}
-use Rattle.amount.proofs.Amounts.{value_on, value_none, value_more, size_on, pointed}
+use Rattle.amount.proofs.Amounts.{value_on, value_none, value_more}
 
 -- ---- the running scale
 
@@ -49,90 +42,66 @@ power_more (suc m) f = omega arith
 
 -- ---- the digits so far
 
--- the digits from p up to place i are read, i - p of them: v is their number, and d is the byte at i less 48
-pub record Reading (n : ℕ) (s : List ℕ) (p v scale i d : ℕ) : Type 0 where
-  pub further : p ≤ i
-  pub inside : i ≤ length s
-  pub most : i - p ≤ n
-  pub scale_is : scale ≡ 10 ^ (n - (i - p))
-  pub small : v < 10 ^ (i - p)
-  pub value_is : value_on s i v ≡ value_on s p 0
-  pub run_is : i + run (drop i s) ≡ p + run (drop p s)
-  pub digit_is : d ≡ digit_of (get_or s i 0)
+-- the first i digits are read: v is their number
+pub record Reading (n : ℕ) (s : List ℕ) (v scale i : ℕ) : Type 0 where
+  pub most : i ≤ n
+  pub scale_is : scale ≡ 10 ^ (n - i)
+  pub small : v < 10 ^ i
+  pub value_is : value_on s i v ≡ value_on s 0 0
+  pub run_is : i + run (drop i s) ≡ run s
 
-pub reading_first : (n : ℕ) (s : List ℕ) (p : ℕ) → p ≤ length s → {d : ℕ} → d ≡ digit_of (get_or s p 0) → Reading n s p 0 (10 ^ n) p d
-reading_first n s p h e =
+pub reading_first : (n : ℕ) (s : List ℕ) → Reading n s 0 (10 ^ n) 0
+reading_first n s =
     record {
-      further = omega arith;
-      inside = h;
       most = omega arith;
-      scale_is = rw (sub_self p, sub-zero n);
-      small = rw (sub_self p, pow-zero 10) (omega arith);
+      scale_is = rw (sub-zero n);
+      small = rw (pow-zero 10) (omega arith);
       value_is = refl;
-      run_is = refl;
-      digit_is = e;
+      run_is = omega arith;
     }
 
-module _ {n : ℕ} {s : List ℕ} {p v scale i d : ℕ} (R : Reading n s p v scale i d) where
+module _ {n : ℕ} {s : List ℕ} {v scale i : ℕ} (R : Reading n s v scale i) where
   -- the scale that the loop keeps is the running one
-  pub running : scale ≡ scale_after n (i - p)
-  running = R.scale_is ∙ sym (scale_after_lem n (i - p) R.most)
+  pub running : scale ≡ scale_after n i
+  running = R.scale_is ∙ sym (scale_after_lem n i R.most)
 
   pub size_below : v * scale < 10 ^ n
-  size_below = rw R.scale_is (shifted_below n (i - p) R.most R.small)
+  size_below = rw R.scale_is (shifted_below n i R.most R.small)
 
   pub number_below : v < 10 ^ n
   number_below = omega (arith, R.small, pow-le-pow_right {n = 10} (omega arith) R.most)
 
   -- no place is left, or one is
-  full : scale ≡ 1 → i - p ≡ n
-  full e = omega (arith, power_one (n - (i - p)) (sym R.scale_is ∙ e), R.most)
+  full : scale ≡ 1 → i ≡ n
+  full e = omega (arith, power_one (n - i) (sym R.scale_is ∙ e), R.most)
 
-  pub free : (scale ≡ 1 → ⊥) → i - p < n
-  free e = omega (arith, power_more (n - (i - p)) (λ q. e (R.scale_is ∙ q)))
+  pub free : (scale ≡ 1 → ⊥) → i < n
+  free e = omega (arith, power_more (n - i) (λ q. e (R.scale_is ∙ q)))
 
-  module _ (f : get_or s i 0 < 256) where
-    -- a digit stands there
+  -- no digit is left
+  pub all_read : i ≤ length s → run (drop i s) ≡ 0 → PartIs n s (record { value = v * scale; len = i })
+  all_read h z =
+      let e : i ≡ run s = omega (arith, R.run_is) in
+      let q : v ≡ value 0 (take (run s) s) = sym (value_none s i v z) ∙ R.value_is in
+      record {
+        value_is = rw (R.scale_is, e) (ap (λ (x : ℕ). x * 10 ^ (n - run s)) q);
+        small = size_below;
+        len_is = e;
+        most = omega (arith, R.most);
+        inside = h;
+      }
 
-    stands : d < 10 → i < length s
-    stands g = within_text s i (is_digit_lem (get_or s i 0) d f R.digit_is g)
+  -- d is the digit at place i
+  module _ {d : ℕ} (h : i < length s) (f : get_or s i 0 < 256) (e : d ≡ digit_of (get_or s i 0)) where
+    pub too_many : d < 10 → scale ≡ 1 → n < run s
+    too_many g u = omega (arith, full u, run_on s i d h f e g, R.run_is)
 
-    run_more : d < 10 → run (drop i s) ≡ suc (run (drop (i + 1) s))
-    run_more g = run_on s i d (stands g) f R.digit_is g
-
-    pub too_many : d < 10 → scale ≡ 1 → n < run (drop p s)
-    too_many g e = omega (arith, full e, run_more g, R.run_is, R.further)
-
-    pub reading_next : d < 10 → (scale ≡ 1 → ⊥) → {b : ℕ} → b ≡ digit_of (get_or s (i + 1) 0) → Reading n s p (v * 10 + d) (scale / 10) (i + 1) b
-    reading_next g e B =
-        let y : i + 1 - p ≡ suc (i - p) = omega (arith, R.further) in
+    pub reading_next : d < 10 → (scale ≡ 1 → ⊥) → Reading n s (v * 10 + d) (scale / 10) (i + 1)
+    reading_next g u =
         record {
-          further = omega (arith, R.further);
-          inside = omega (arith, stands g);
-          most = omega (arith, free e);
-          scale_is = rw (R.scale_is, y) (scale_next n (i - p) (free e));
-          small = rw (y, pow-succ' 10 (i - p)) (omega (arith, R.small));
-          value_is = sym (value_more s i v (stands g) f R.digit_is g) ∙ R.value_is;
-          run_is = omega (arith, run_more g, R.run_is);
-          digit_is = B;
+          most = omega (arith, free u);
+          scale_is = rw (R.scale_is, add-one) (scale_next n i (free u));
+          small = rw (add-one, pow-succ' 10 i) (omega (arith, R.small));
+          value_is = sym (value_more s i v h f e g) ∙ R.value_is;
+          run_is = omega (arith, run_on s i d h f e g, R.run_is);
         }
-
-    -- none does: all are read
-
-    run_none : 10 ≤ d → run (drop i s) ≡ 0
-    unfolding digits
-    run_none g = run_all [] (drop i s) refl (rw (get_or-drop i s 0 0, add-zero) (no_digit (get_or s i 0) d f R.digit_is g))
-
-    pub end_is : 10 ≤ d → i ≡ p + run (drop p s)
-    end_is g = omega (arith, run_none g, R.run_is)
-
-    size_is : 10 ≤ d → v * scale ≡ size_on n s p
-    size_is g =
-        let k : i - p ≡ run (drop p s) = omega (arith, end_is g) in
-        rw (R.scale_is, k, ← R.value_is, value_none s i v (run_none g))
-
--- all digits behind a point are read, and not none: they are the fraction of an amount
-pub fraction_read : {s : List ℕ} {at p : ℕ} {neg : Bool} {z : ℤ} → PointAt s at p neg z → {v scale i d : ℕ} → Reading precision s p v scale i d → get_or s i 0 < 256 → 10 ≤ d → (i ≡ p → ⊥) → {y f : ℤ} → y ≡ z → f ≡ signed neg (v * scale) → ReadIs precision s at (record { integer = y; frac = f }) i
-fraction_read Q R b g e Y F =
-    let k = end_is R b g in
-    pointed Q (omega (arith, e)) (omega (arith, R.most)) k R.inside Y (rw (← size_is R b g) F)

@@ -1,7 +1,7 @@
 -- How far from 1970-01-01 a day of a year lies. Assumes nothing.
 use mathlib.Core.Path.{◌≡◌}
 use mathlib.Core.Bool.{Bool, true, false}
-use mathlib.Core.Option.{none, some}
+use Rattle.std.specs.Prelude.{None, Some}
 use Prim.Native.Nat.{ℕ, zero, suc, ◌+◌, ◌-◌, ◌*◌, ◌≤◌, ◌<◌}
 use native.Mathlib.Omega.{arith}
 use lib.Dec.{leb, ltb, leb→le}
@@ -41,15 +41,15 @@ before_most true m h = leb→le (before true m + month_days true m) 366 (below (
 before_most false m h = leb→le (before false m + month_days false m) 366 (below (λ (i : ℕ). leb (before false i + month_days false i) 366) 13 tt m h)
 
 -- a day of year y
-pub civil_most : (y : ℤ) (m d : ℕ) (z : ℤ) → civil y m d ≡ some z → Within (366 * (P y + N y + 1971)) z
+pub civil_most : (y : ℤ) (m d : ℕ) (z : ℤ) → civil y m d ≡ Some z → Within (366 * (P y + N y + 1971)) z
 civil_most y m d z e =
     by_test (is_date y m d)
     (λ t.
     let w = within_is 1 d (month_days (leap y) m) t in
-    let q : some (day_number y m d) ≡ some z = rw t at e in
+    let q : Some (day_number y m d) ≡ Some z = rw t at e in
     let v : day_number y m d ≡ z = cc in
     rw (← v) (omega (arith, add_pn (year_start y) (pos (before (leap y) m + (d - 1))), start_most y, before_most (leap y) m (month y m d w.0 w.1))))
-    (λ t. let q : none ≡ some z = rw t at e in let x : ◌≡◌ {A = ℕ} 0 1 = cc in absurd (omega arith))
+    (λ t. let q : None ≡ Some z = rw t at e in let x : ◌≡◌ {A = ℕ} 0 1 = cc in absurd (omega arith))
   where
     month : (y : ℤ) (m d : ℕ) → 1 ≤ d → d ≤ month_days (leap y) m → m < 13
     month y m d p q = by_test (ltb m 13) (ltb-true m 13) (λ h. absurd (omega (arith, past_12 (leap y) m (ltb-false m 13 h))))

@@ -1,7 +1,7 @@
 -- A date's day number, from what is known of its year and its month, and the dates that the calendar does not have. Assumes nothing.
 use mathlib.Core.Path.{◌≡◌, refl, ap}
 use mathlib.Core.Bool.{Bool, true, false}
-use mathlib.Core.Option.{none, some}
+use Rattle.std.specs.Prelude.{None, Some}
 use Prim.Native.Nat.{ℕ, ◌+◌, ◌-◌, ◌%◌, ◌^◌, ◌≤◌, ◌<◌}
 use native.Mathlib.Omega.{arith}
 use lib.Dec.{eqb}
@@ -17,7 +17,7 @@ use Rattle.calendar.proofs.Years.{Counts, shift, in_cycle, first_day}
 
 -- ---- dates that the calendar does not have
 
-pub too_late : (y : ℤ) (m d : ℕ) → month_days (leap y) m < d → none ≡ civil y m d
+pub too_late : (y : ℤ) (m d : ℕ) → month_days (leap y) m < d → None ≡ civil y m d
 too_late y m d h = rw (within_over 1 d (month_days (leap y) m) h)
 
 -- ---- n counts the year y
@@ -39,9 +39,9 @@ module _ (y : ℤ) (n : ℕ) (h : Counts n y) where
       d ≤ month_days (leap y) m →
       (e : ℕ) →
       start 2147485970 ≡ e →
-      some (to_z w64 u -ℤ pos e) ≡ civil y m d
+      Some (to_z w64 u -ℤ pos e) ≡ civil y m d
   number m d {u} fits p first last e q =
-      rw (to_z_pos w64 fits, within_yes 1 d (month_days (leap y) m) first last) (ap some same)
+      rw (to_z_pos w64 fits, within_yes 1 d (month_days (leap y) m) first last) (ap Some same)
     where
       same : pos u -ℤ pos e ≡ day_number y m d
       same =

@@ -1,11 +1,8 @@
 -- The proleptic Gregorian calendar (ISO 8601; RFC 3339, appendix C for the leap rule), by counting days from 1970-01-01, forward and
 -- back. A year is any whole number: year 0 comes before year 1, and year -1 before year 0. A month or a day that the calendar does
 -- not have makes no date. Assumes nothing.
-use Rattle.std.specs.Prelude.{Bool, true, false, cond, not, ◌&&◌, ◌||◌, [], ◌∷◌, ℕ, zero, suc, ◌+◌, ◌-◌, ◌%◌, eqb, leb, get_or, ℤ, pos, neg_ℤ, nat_abs, ◌+ℤ◌, ◌-ℤ◌}
-use Rattle.std.proofs.Math.Option.{Option, none, some}
+use Rattle.std.specs.Prelude.{Bool, true, false, cond, not, ◌&&◌, ◌||◌, [], ◌∷◌, ℕ, zero, suc, ◌+◌, ◌-◌, ◌%◌, eqb, leb, get_or, ℤ, pos, neg_ℤ, nat_abs, ◌+ℤ◌, ◌-ℤ◌, Option, None, Some}
 use Rattle.std.specs.Int.Signed.{le_z}
-use Rattle.calendar.specs.declared.Day.{Day}
-use Rattle.calendar.specs.declared.Day.TheVariants.{Number, None}
 
 -- k divides the year y
 abbrev pub divides : ℕ → ℤ → Bool
@@ -52,9 +49,4 @@ day_number y m d = year_start y +ℤ pos (before (leap y) m + (d - 1))
 
 -- the day number of a date, if the calendar has it
 abbrev pub civil : ℤ → ℕ → ℕ → Option ℤ
-civil y m d = cond (is_date y m d) (some (day_number y m d)) none
-
--- the day number that an answer holds, if it holds one
-abbrev pub day : Day → Option ℤ
-day (Number z) = some z
-day None = none
+civil y m d = cond (is_date y m d) (Some (day_number y m d)) None

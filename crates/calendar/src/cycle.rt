@@ -1,7 +1,6 @@
 // The cycle of 400 years.
 ghost use Rattle.std.specs.Prelude.{◌≡◌, ◌+◌, ◌<◌, ◌≤◌, ◌+ℤ◌, pos};
-ghost use Rattle.calendar.specs.Calendar.{year_days, before};
-ghost use Rattle.calendar.specs.Cycle.{start, YearStarts};
+ghost use Rattle.calendar.specs.Calendar.{before};
 
 // The day number of each year's start in the cycle, and one past the end.
 pub const STARTS: [u32; 401] = [
@@ -42,31 +41,11 @@ pub const STARTS: [u32; 401] = [
 // Days from the start of the cycle that `counted` counts from to 1970-01-01.
 pub const EPOCH: i64 = 784_353_144_398;
 
-// A year of the cycle: the day that it starts on, and its days.
-#[derive(Clone, Copy)]
-pub struct Year {
-    pub start: u32,
-    pub days: u32,
-}
-
 // The year, counted from the start of a cycle that lies before every year of 32 bits.
 pub fn counted(year: i32) -> u64
     ensures { (pos result ≡ year +ℤ pos 2147484000) × (result < 4294967648) }
 {
     (year as i64 + 2_147_484_000) as u64
-}
-
-// A year of the cycle, from the table: its start, and its days up to the next start.
-pub fn year_of_cycle(starts: &[u32; 401], y: usize) -> Year
-    requires { YearStarts starts.now × (y < 400) }
-    ensures { (result.start ≡ start y) × (result.days ≡ year_days (pos y)) }
-{
-    let start = starts[y];
-    let end = starts[y + 1];
-    Year {
-        start,
-        days: end - start,
-    }
 }
 
 // The days of the year before a month, 13 being the next January.
@@ -76,7 +55,10 @@ pub fn days_before(leap: bool, month: u32) -> u32
 {
     let even = (367 * month - 362) / 12;
     if month <= 2 {
-        return even;
+        even
+    } else if leap {
+        even - 1
+    } else {
+        even - 2
     }
-    if leap { even - 1 } else { even - 2 }
 }

@@ -1,6 +1,5 @@
 -- What a C caller finds after a call: a status, and the cells that it lent. The refusals' numbers are document 01's. Assumes nothing.
-use Rattle.std.specs.Prelude.{◌≡◌, List, ℕ, ℤ}
-use Rattle.std.proofs.Math.Option.{Option, none, some}
+use Rattle.std.specs.Prelude.{◌≡◌, List, ℕ, ℤ, Option, None, Some}
 use Rattle.parse_column.specs.Read.{whole_of}
 use Rattle.parse_column.specs.declared.ColumnRead.{ColumnRead}
 use Rattle.refusal.specs.Outcome.{Outcome, accepted, refused}
@@ -13,8 +12,8 @@ Told (refused n) status before after = (status ≡ n) × (after ≡ before)
 
 -- the cell `place`: a refusal's place is written, and without one the cell is as it was
 abbrev pub ToldPlace : Option ℕ → ℕ → ℕ → Type 0
-ToldPlace none before after = after ≡ before
-ToldPlace (some p) before after = after ≡ p
+ToldPlace None before after = after ≡ before
+ToldPlace (Some p) before after = after ≡ p
 
 -- of a whole column: accepted, status 0; a text refused, its number, and the cell `index` holds its index; no text read, the number alone
 abbrev pub ToldAt : Whole → ℕ → ℕ → ℕ → Type 0

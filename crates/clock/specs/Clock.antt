@@ -1,11 +1,8 @@
 -- A time of day as a text writes it (RFC 3339, sections 5.6 and 5.7; ISO 8601). Document 01 widens the RFC: second 60 in any minute, and
 -- any number of fraction digits, of which nine count. Assumes nothing.
 use Rattle.std.specs.Prelude.{Bool, ◌&&◌, List, ℕ, ◌+◌, ◌-◌, ◌*◌, ◌^◌, leb, length, take}
-use Rattle.std.proofs.Math.Option.{Option, none, some}
 use Rattle.text.specs.Digits.{value}
 use Rattle.clock.specs.declared.NaiveTime.{NaiveTime}
-use Rattle.clock.specs.declared.Time.{Time}
-use Rattle.clock.specs.declared.Time.TheVariants.{At, None}
 
 -- hour, minute, second, and the digits behind the point, none where there is no point
 pub record Clock : Type 0 where
@@ -33,8 +30,3 @@ since_midnight c = ((c.hour * 60 + c.minute) * 60 + c.second) * 1000000000 + nan
 -- what a time of the code is: its nanoseconds since midnight
 abbrev pub nanos_of_day : NaiveTime → ℕ
 nanos_of_day t = t.secs * 1000000000 + t.frac
-
--- what an answer of the code says, if it holds a time
-abbrev pub time_is : Time → Option ℕ
-time_is (At t) = some (nanos_of_day t)
-time_is None = none

@@ -1,23 +1,18 @@
 // Times of day of the clock: their fields, and the digits of a fraction.
 #![tactic(auto)]
 
-ghost use Rattle.std.specs.Prelude.{◌≡◌, cond, ◌&&◌, ◌+◌, ◌-◌, ◌*◌, ◌^◌, ◌≤◌, ◌<◌, ltb, length, take};
-ghost use Rattle.std.proofs.Math.Option.{none, some};
+ghost use Rattle.std.specs.Prelude.{◌≡◌, cond, ◌&&◌, ◌+◌, ◌-◌, ◌*◌, ◌^◌, ◌≤◌, ◌<◌, ltb, length, take, option_map, None, Some};
 ghost use Rattle.text.specs.Digits.{run};
-ghost use Rattle.clock.specs.Clock.{in_range, nanos_of, time_is};
+ghost use Rattle.clock.specs.Clock.{in_range, nanos_of, nanos_of_day};
+
+use text::byte_at;
+use text::digits::{digit, run_end};
 
 // A time of day: seconds since midnight, and nanoseconds. Second 60 is second 59 with 1,000,000,000 added to the nanoseconds.
 #[derive(Clone, Copy)]
 pub struct NaiveTime {
     pub secs: u32,
     pub frac: u32,
-}
-
-// A time of day, or none.
-#[derive(Clone, Copy)]
-pub enum Time {
-    At(NaiveTime),
-    None,
 }
 
 // The digits of a fraction: what they count, and how many they are.
@@ -33,9 +28,8 @@ pub fn parse_nanos(s: &[u8]) -> Secfrac
     ensures { (result.nanos ≡ nanos_of (take (run s.now) s.now)) × (result.nanos < 1000000000) × (result.digits ≡ run s.now) × (result.digits ≤ length s.now) }
 {
     let mut nanos: u32 = 0;
-    let mut i = 0;
-    while i < 9 {
-        let d = text::digits::digit(text::byte_at(s, i));
+    for i in 0..9 {
+        let d = digit(byte_at(s, i));
         if 10 <= d {
             return Secfrac {
                 nanos: nanos * scale(i),
@@ -43,11 +37,10 @@ pub fn parse_nanos(s: &[u8]) -> Secfrac
             };
         }
         nanos = nanos * 10 + d as u32;
-        i += 1;
     }
     Secfrac {
         nanos,
-        digits: text::digits::run_end(s, 9),
+        digits: run_end(s, 9),
     }
 }
 
@@ -70,21 +63,20 @@ fn scale(i: usize) -> u32
 }
 
 // chrono's `NaiveTime::from_hms_nano_opt`, with second 60 held as second 59 and 1,000,000,000 more nanoseconds.
-pub fn from_hms_nano(hour: u8, min: u8, sec: u8, nano: u32) -> Time
-    ensures { time_is result ≡ cond (in_range hour min sec && ltb nano 1000000000) (some (((hour * 60 + min) * 60 + sec) * 1000000000 + nano)) none }
+pub fn from_hms_nano(hour: u8, min: u8, sec: u8, nano: u32) -> Option<NaiveTime>
+    ensures { option_map nanos_of_day result ≡ cond (in_range hour min sec && ltb nano 1000000000) (Some (((hour * 60 + min) * 60 + sec) * 1000000000 + nano)) None }
 {
-    let fits = (hour <= 23) & ((min <= 59) & (sec <= 60)) & (nano < 1_000_000_000);
-    if !fits {
-        return Time::None;
+    if 23 < hour || 59 < min || 60 < sec || 1_000_000_000 <= nano {
+        return None;
     }
     let minutes = hour as u32 * 60 + min as u32;
     if sec == 60 {
-        return Time::At(NaiveTime {
+        return Some(NaiveTime {
             secs: minutes * 60 + 59,
             frac: nano + 1_000_000_000,
         });
     }
-    Time::At(NaiveTime {
+    Some(NaiveTime {
         secs: minutes * 60 + sec as u32,
         frac: nano,
     })

@@ -4,7 +4,7 @@ use mathlib.Core.Path.{◌≡◌, refl, sym, ap, ◌∙◌}
 use mathlib.Core.Bool.{Bool, true, false}
 use mathlib.Core.Logic.{◌⊎◌, inl, inr, ⊎_elim, ◌↔◌}
 use mathlib.Core.List.{List}
-use mathlib.Core.Option.{Option, none, some}
+use Rattle.std.specs.Prelude.{Option, None, Some}
 use Prim.Native.Nat.{ℕ, ◌^◌, ◌≤◌, ◌<◌}
 use native.Mathlib.Omega.{arith}
 use lib.Dec.{leb}
@@ -194,11 +194,11 @@ reader_first t date_32 z e = e
 reader_first t date_64 z e = e
 
 -- an integer of the width
-integer_is : (bits : ℕ) (o : Option ℤ) (z : ℤ) → on_integer (keep (in_type true bits) o) ≡ accepted z → (o ≡ some z) × (in_type true bits z ≡ true)
-integer_is bits none z e = clash e
-integer_is bits (some x) z e =
+integer_is : (bits : ℕ) (o : Option ℤ) (z : ℤ) → on_integer (keep (in_type true bits) o) ≡ accepted z → (o ≡ Some z) × (in_type true bits z ≡ true)
+integer_is bits None z e = clash e
+integer_is bits (Some x) z e =
     by_test (in_type true bits x)
-    (λ f. let q : x ≡ z = cc (rw f at e) in (ap some q, rw (← q) f))
+    (λ f. let q : x ≡ z = cc (rw f at e) in (ap Some q, rw (← q) f))
     (λ f. clash (rw f at e))
 
 module _ (t : List ℕ) where

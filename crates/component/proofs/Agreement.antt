@@ -4,7 +4,7 @@ use mathlib.Core.Path.{◌≡◌, refl, ◌∙◌}
 use mathlib.Core.Bool.{Bool, true, false, not}
 use mathlib.Core.Logic.{◌⊎◌, inl, inr, ⊎_elim, ◌↔◌}
 use mathlib.Core.List.{List, [], ◌∷◌, ◌++◌, append_assoc, append-nil}
-use mathlib.Core.Option.{Option, none, some, none-ne-some}
+use Rattle.std.specs.Prelude.{Option, None, Some}
 use Prim.Native.Nat.{ℕ, zero, suc, ◌+◌, ◌≤◌, ◌<◌}
 use native.Mathlib.Nat.{add-zero, add_assoc}
 use native.Mathlib.Omega.{arith}
@@ -47,7 +47,7 @@ unit_breaks u x e = breaks (get_or (u ++ x) 0 0) (inr (unit_first u x e))
 -- ---- a component that ends the text, or that white space follows, is read as it stands
 
 module _ (a : List ℕ) (k : ℕ) (u x : List ℕ) (e : is_unit u ≡ true) (h : Ends x) where
-  unit_read : (s : Bool) → unit_step a s k (u ++ x) ≡ end_step true (component a s (some u)) (k + length u) x
+  unit_read : (s : Bool) → unit_step a s k (u ++ x) ≡ end_step true (component a s (Some u)) (k + length u) x
   unfolding unit_step
   unit_read s = rw (word_run u x (unit_letters u e) h, take-append_seam u x, drop-append_seam u x, e)
 
@@ -69,10 +69,10 @@ unit_some u x e = from (u ++ x) (unit_first u x e)
     from [] h = absurd (omega arith)
     from (b ∷ t) h = omega arith
 
-glued_read : (a : List ℕ) (k : ℕ) (u x : List ℕ) → is_unit u ≡ true → Ends x → rest_step a k (u ++ x) ≡ end_step true (component a false (some u)) (k + length u) x
+glued_read : (a : List ℕ) (k : ℕ) (u x : List ℕ) → is_unit u ≡ true → Ends x → rest_step a k (u ++ x) ≡ end_step true (component a false (Some u)) (k + length u) x
 glued_read a k u x e h = rest_cons a k (u ++ x) (unit_some u x e) ∙ rw (unit_not_white u x e, add-zero) (unit_read a k u x e h false)
 
-apart_read : (a : List ℕ) (k : ℕ) {w : List ℕ} (u x : List ℕ) → White w → is_unit u ≡ true → Ends x → rest_step a k (w ++ (u ++ x)) ≡ end_step true (component a true (some u)) ((k + length w) + length u) x
+apart_read : (a : List ℕ) (k : ℕ) {w : List ℕ} (u x : List ℕ) → White w → is_unit u ≡ true → Ends x → rest_step a k (w ++ (u ++ x)) ≡ end_step true (component a true (Some u)) ((k + length w) + length u) x
 apart_read a k {w} u x W e h =
     rest_cons a k (w ++ (u ++ x)) (omega (arith, length-append w (u ++ x), white_some W)) ∙
     rw (measures W (u ++ x), drop-append_seam w (u ++ x), ne_eqb (length w) 0 (λ q. omega (arith, white_some W))) (unit_read a (k + length w) u x e h true)
@@ -88,7 +88,7 @@ complete_read x (glued {a} {u} A e) h =
 complete_read x (apart {a} {w} {u} A W e) h =
     rw (append_assoc a (w ++ u) x, append_assoc w u x, amount_read a (w ++ (u ++ x)) A (white_breaks W (u ++ x)), apart_read a (length a) u x W e h, length-append a (w ++ u), length-append w u, add_assoc)
 
-bare_step : {n : ℕ} (a : List ℕ) {v : Value} → Amount n a v → step n a ≡ stop (component a false none)
+bare_step : {n : ℕ} (a : List ℕ) {v : Value} → Amount n a v → step n a ≡ stop (component a false None)
 unfolding rest_step
 bare_step a A = rw append-nil at (amount_read a [] A nothing_breaks)
 
@@ -104,7 +104,7 @@ past : (t w r : List ℕ) → drop (length t + length w) (t ++ (w ++ r)) ≡ r
 past t w r = drop-append-add t (w ++ r) (length w) ∙ drop-append_seam w r
 
 -- every division is the computed one
-pub computed : {n : ℕ} (t : List ℕ) (d : List Component) (j : ℕ) → Divides n t d → length t < j → divide_by n j t ≡ some d
+pub computed : {n : ℕ} (t : List ℕ) (d : List Component) (j : ℕ) → Divides n t d → length t < j → divide_by n j t ≡ Some d
 unfolding divide_by then before
 computed t d zero D h = absurd (omega arith)
 computed t d (suc j) (bare {a} A) h = rw (bare_step a A)
@@ -133,11 +133,11 @@ module _ {n : ℕ} where
       (rw (length-take-le (white_len (b ∷ x)) (b ∷ x) W.1)))
       (found (b ∷ x))
 
-  unit_sound : (a : List ℕ) (s : Bool) (p r : List ℕ) → ((u : List ℕ) → is_unit u ≡ true → Complete n (p ++ u) (component a s (some u))) → StepIs n (p ++ r) (unit_step a s (length p) r)
+  unit_sound : (a : List ℕ) (s : Bool) (p r : List ℕ) → ((u : List ℕ) → is_unit u ≡ true → Complete n (p ++ u) (component a s (Some u))) → StepIs n (p ++ r) (unit_step a s (length p) r)
   unfolding unit_step
   unit_sound a s p r C =
       rw (append_assoc, take-append-drop (word_len r) r, length-append, length-take-le (word_len r) r (word_is r).1)
-      at (end_sound (component a s (some (take (word_len r) r))) (p ++ take (word_len r) r) (drop (word_len r) r) (is_unit (take (word_len r) r)) (C (take (word_len r) r)) (word_is r).0)
+      at (end_sound (component a s (Some (take (word_len r) r))) (p ++ take (word_len r) r) (drop (word_len r) r) (is_unit (take (word_len r) r)) (C (take (word_len r) r)) (word_is r).0)
 
   glued_sound : (a : List ℕ) (b : ℕ) (r : List ℕ) {v : Value} → Amount n a v → white_len (b ∷ r) ≡ 0 → StepIs n (a ++ (b ∷ r)) (rest_step a (length a) (b ∷ r))
   unfolding rest_step
@@ -166,14 +166,14 @@ module _ {n : ℕ} where
   unfolding step
   step_sound t = amount_sound t (amount_len n t) (amount_is n t)
 
-before_is : (c : Component) (o : Option (List Component)) (d : List Component) → before c o ≡ some d → (e : List Component) × (o ≡ some e) × (d ≡ c ∷ e)
+before_is : (c : Component) (o : Option (List Component)) (d : List Component) → before c o ≡ Some d → (e : List Component) × (o ≡ Some e) × (d ≡ c ∷ e)
 unfolding before
-before_is c none d e = absurd (none-ne-some d e)
-before_is c (some r) d e = (r, refl, cc)
+before_is c None d e = cc
+before_is c (Some r) d e = (r, refl, cc)
 
-then_sound : {n : ℕ} (t : List ℕ) (s : Step) → StepIs n t s → (f : ℕ → Option (List Component)) → ((k : ℕ) (d : List Component) → f k ≡ some d → Divides n (drop k t) d) → (d : List Component) → then s f ≡ some d → Divides n t d
+then_sound : {n : ℕ} (t : List ℕ) (s : Step) → StepIs n t s → (f : ℕ → Option (List Component)) → ((k : ℕ) (d : List Component) → f k ≡ Some d → Divides n (drop k t) d) → (d : List Component) → then s f ≡ Some d → Divides n t d
 unfolding then
-then_sound t s is_bad f h d e = absurd (none-ne-some d e)
+then_sound t s is_bad f h d e = cc
 then_sound t s (is_stop {c} D) f h d e = let q : c ∷ [] ≡ d = cc in rw q at D
 then_sound {n} t s (is_go {c} {k} u w r C W et ek) f h d e =
     let g = before_is c (f k) d e in
@@ -181,15 +181,15 @@ then_sound {n} t s (is_go {c} {k} u w r C W et ek) f h d e =
     let R : Divides n r g.0 = rw q at (h k g.0 g.1) in
     rw (g.2, et) (more C W R)
 
-pub sound : {n : ℕ} (j : ℕ) (t : List ℕ) (d : List Component) → divide_by n j t ≡ some d → Divides n t d
+pub sound : {n : ℕ} (j : ℕ) (t : List ℕ) (d : List Component) → divide_by n j t ≡ Some d → Divides n t d
 unfolding divide_by
-sound zero t d e = absurd (none-ne-some d e)
+sound zero t d e = cc
 sound {n} (suc j) t d e = then_sound t (step n t) (step_sound t) (λ k. divide_by n j (drop k t)) (λ k r. sound j (drop k t) r) d e
 
 -- ---- THE DIVISION
 
 -- a list of components is a division of a text exactly where it is the one computed
-pub agrees : (n : ℕ) (t : List ℕ) (d : List Component) → Divides n t d ↔ (divide n t ≡ some d)
+pub agrees : (n : ℕ) (t : List ℕ) (d : List Component) → Divides n t d ↔ (divide n t ≡ Some d)
 unfolding divide
 agrees n t d = (λ D. computed t d (suc (length t)) D (omega arith), λ e. sound (suc (length t)) t d e)
 
@@ -211,5 +211,5 @@ well_formed (last C) = rw append-nil at (complete_utf8 C nothing)
 well_formed (more C W R) = complete_utf8 C (white_utf8 W (well_formed R))
 
 -- the same of what is computed
-pub divided_utf8 : (n : ℕ) (t : List ℕ) (d : List Component) → divide n t ≡ some d → utf8 t ≡ true
+pub divided_utf8 : (n : ℕ) (t : List ℕ) (d : List Component) → divide n t ≡ Some d → utf8 t ≡ true
 divided_utf8 n t d e = (Utf8Agrees.agrees t).0 (well_formed ((agrees n t d).1 e))

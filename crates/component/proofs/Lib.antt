@@ -3,4 +3,3 @@ pub mod Agreement
 pub mod Steps
 pub mod Faults
 pub mod Pieces
-pub mod Held

@@ -2,7 +2,7 @@
 use mathlib.Core.Path.{◌≡◌, refl}
 use mathlib.Core.Bool.{Bool, false, not, cond}
 use mathlib.Core.List.{List}
-use mathlib.Core.Option.{none, some}
+use Rattle.std.specs.Prelude.{None, Some}
 use Prim.Native.Nat.{ℕ, ◌+◌, ◌-◌, ◌≤◌, ◌<◌}
 use native.Mathlib.Nat.{add-zero}
 use native.Mathlib.Omega.{arith}
@@ -22,31 +22,31 @@ use Rattle.component.specs.Division.{step, bad}
 use Rattle.component.specs.Spelled.{spelled, unit_for}
 use Rattle.component.specs.Fault.{in_amount, fault}
 use Rattle.component.specs.Read.{Holds, LastIs, MoreIs}
-use Rattle.amount.specs.Read.{ReadIs}
+use Rattle.amount.specs.Read.{ReadIs, value_of}
 use Rattle.amount.specs.Scan.{amount_len}
-use Rattle.amount.specs.declared.IntervalAmount.{IntervalAmount}
+use Rattle.amount.specs.declared.held.IntervalAmount.{IntervalAmount}
 use Rattle.amount.proofs.AmountLaws.{same_sign, frac_small}
 use Rattle.component.proofs.Steps.{amount_last, word_bad, unit_last, unit_more}
 use Rattle.component.proofs.Faults.{overmeasured, fault_first, fault_unit}
 
 -- the unit of a component with an amount a, spaced or not: the default u where there is no word, else what the word w spells
 
-unit_default : (u : IntervalUnit) (a : List ℕ) (s : Bool) → unit_for u (component a s none) ≡ u
+unit_default : (u : IntervalUnit) (a : List ℕ) (s : Bool) → unit_for u (component a s None) ≡ u
 unfolding unit_for spelled
 unit_default u a s = refl
 
-unit_spelled : (w : List ℕ) (u : IntervalUnit) (a : List ℕ) (s : Bool) {v : IntervalUnit} → unit_of w ≡ some v → unit_for u (component a s (some w)) ≡ v
+unit_spelled : (w : List ℕ) (u : IntervalUnit) (a : List ℕ) (s : Bool) {v : IntervalUnit} → unit_of w ≡ Some v → unit_for u (component a s (Some w)) ≡ v
 unfolding unit_for spelled or_else
 unit_spelled w u a s e = rw e
 
 -- an amount from at to e
-module _ (s : List ℕ) (at : ℕ) (a : IntervalAmount) (e : ℕ) (R : ReadIs precision s at a e) where
+module _ (s : List ℕ) (at : ℕ) (a : IntervalAmount) (e : ℕ) (R : ReadIs precision s at (value_of a) e) where
   -- nothing follows
-  pub alone : length s ≤ e → LastIs precision s at a none
+  pub alone : length s ≤ e → LastIs precision s at a None
   unfolding or_else
   alone h =
       record {
-        this = component (take (e - at) (drop at s)) false none;
+        this = component (take (e - at) (drop at s)) false None;
         stepped = amount_last precision s at e R.end_is R.further h;
         holds = record { amount_is = R.says; same_sign = same_sign R.says; small = frac_small R.says; unit_is = λ u. unit_default u (take (e - at) (drop at s)) false };
       }
@@ -58,7 +58,7 @@ module _ (s : List ℕ) (at : ℕ) (a : IntervalAmount) (e : ℕ) (R : ReadIs pr
     ends_there = refl
 
     -- the word spells no unit
-    pub no_unit_here : unit_of (word_of s f) ≡ none → step precision (drop at s) ≡ bad
+    pub no_unit_here : unit_of (word_of s f) ≡ None → step precision (drop at s) ≡ bad
     no_unit_here h =
         word_bad precision s at e R.end_is R.further w f (word_end s f) l W F ends_there (spells_none (take (word_end s f - f) (drop f s)) (word_here s f h))
 
@@ -73,15 +73,15 @@ module _ (s : List ℕ) (at : ℕ) (a : IntervalAmount) (e : ℕ) (R : ReadIs pr
         (λ h. rw h (omega (arith, W, F, rw d at (fault_unit precision (drop at s) (omega (arith, R.further)) (rw b h)))))
 
     -- the word spells the unit u
-    module _ {u : IntervalUnit} (U : unit_of (word_of s f) ≡ some u) where
-      held : Holds precision (component (take (e - at) (drop at s)) (not (eqb w 0)) (some (take (word_end s f - f) (drop f s)))) a (some u)
+    module _ {u : IntervalUnit} (U : unit_of (word_of s f) ≡ Some u) where
+      held : Holds precision (component (take (e - at) (drop at s)) (not (eqb w 0)) (Some (take (word_end s f - f) (drop f s)))) a (Some u)
       unfolding or_else
       held = record { amount_is = R.says; same_sign = same_sign R.says; small = frac_small R.says; unit_is = λ v. unit_spelled (take (word_end s f - f) (drop f s)) v (take (e - at) (drop at s)) (not (eqb w 0)) (word_here s f U) }
 
-      pub unit_ends : length s ≤ word_end s f → LastIs precision s at a (some u)
+      pub unit_ends : length s ≤ word_end s f → LastIs precision s at a (Some u)
       unit_ends h =
           record {
-            this = component (take (e - at) (drop at s)) (not (eqb w 0)) (some (take (word_end s f - f) (drop f s)));
+            this = component (take (e - at) (drop at s)) (not (eqb w 0)) (Some (take (word_end s f - f) (drop f s)));
             stepped = unit_last precision s at e R.end_is R.further w f (word_end s f) l W F ends_there (spells (take (word_end s f - f) (drop f s)) (word_here s f U)) h;
             holds = held;
           }
@@ -90,7 +90,7 @@ module _ (s : List ℕ) (at : ℕ) (a : IntervalAmount) (e : ℕ) (R : ReadIs pr
     unit_goes_on {x = x} U =
         let q : word_end s f + white_len (drop (word_end s f) s) ≡ x = omega (arith, U.next_is) in
         record {
-          this = component (take (e - at) (drop at s)) (not (eqb w 0)) (some (take (word_end s f - f) (drop f s)));
+          this = component (take (e - at) (drop at s)) (not (eqb w 0)) (Some (take (word_end s f - f) (drop f s)));
           stepped = rw q at (unit_more precision s at e R.end_is R.further w f (word_end s f) l W F ends_there (spells (take (word_end s f - f) (drop f s)) (word_here s f U.spelled)) (omega (arith, U.further, U.inside)) (white_len (drop (word_end s f) s)) refl);
           further = omega (arith, R.further, U.further, ends_there);
           inside = U.inside;

@@ -3,7 +3,7 @@
 use mathlib.Core.Path.{◌≡◌, refl, sym, ap, ◌∙◌}
 use mathlib.Core.Bool.{true, false, not}
 use mathlib.Core.List.{List, [], ◌∷◌, ◌++◌}
-use mathlib.Core.Option.{Option, none, some, none-ne-some}
+use Rattle.std.specs.Prelude.{Option, None, Some}
 use Prim.Native.Nat.{ℕ, zero, suc, ◌+◌, ◌-◌, ◌≤◌, ◌<◌}
 use native.Mathlib.Omega.{arith}
 use lib.Dec.{eqb}
@@ -24,9 +24,9 @@ enough : (n j : ℕ) (t : List ℕ) → length t < j → divide_by n j t ≡ div
 enough n j t h = from (divide_by n j t) refl (divide n t) refl
   where
     from : (o : Option (List Component)) → divide_by n j t ≡ o → (q : Option (List Component)) → divide n t ≡ q → divide_by n j t ≡ divide n t
-    from (some d) e q f = e ∙ sym ((agrees n t d).0 (sound j t d e))
-    from none e none f = e ∙ sym f
-    from none e (some d) f = absurd (none-ne-some d (sym e ∙ computed t d j ((agrees n t d).1 f) h))
+    from (Some d) e q f = e ∙ sym ((agrees n t d).0 (sound j t d e))
+    from None e None f = e ∙ sym f
+    from None e (Some d) f = let q = sym e ∙ computed t d j ((agrees n t d).1 f) h in cc
 
 -- how far a step goes
 go_far : {n : ℕ} (t : List ℕ) (s : Step) → StepIs n t s → (c : Component) (k : ℕ) → s ≡ go c k → (0 < k) × (k ≤ length t)
@@ -45,11 +45,11 @@ pub record OneMore (n : ℕ) (s : List ℕ) (at : ℕ) (c : Component) (x : ℕ)
   pub inside : x ≤ length s
 
 module _ (n : ℕ) (s : List ℕ) (at : ℕ) where
-  pub at_bad : step n (drop at s) ≡ bad → divide n (drop at s) ≡ none
+  pub at_bad : step n (drop at s) ≡ bad → divide n (drop at s) ≡ None
   unfolding divide divide_by then
   at_bad e = rw e
 
-  pub at_last : {c : Component} → step n (drop at s) ≡ stop c → divide n (drop at s) ≡ some (c ∷ [])
+  pub at_last : {c : Component} → step n (drop at s) ≡ stop c → divide n (drop at s) ≡ Some (c ∷ [])
   unfolding divide divide_by then
   at_last e = rw e
 
@@ -90,13 +90,13 @@ module _ (n : ℕ) (s : List ℕ) (at : ℕ) where
             rw (q, x, drop-drop (suc k) at s, y)
 
     -- the text ends behind the amount
-    pub amount_last : length s ≤ e → step n (drop at s) ≡ stop (component (take (e - at) (drop at s)) false none)
+    pub amount_last : length s ≤ e → step n (drop at s) ≡ stop (component (take (e - at) (drop at s)) false None)
     unfolding rest_step
     amount_last h = after_amount ∙ rw (drop_of_length-le s h)
 
     module _ (w f g : ℕ) (l : e < length s) (W : w ≡ white_len (drop e s)) (F : f ≡ e + w) (G : g ≡ f + word_len (drop f s)) where
       abbrev This : Component
-      This = component (take (e - at) (drop at s)) (not (eqb w 0)) (some (take (g - f) (drop f s)))
+      This = component (take (e - at) (drop at s)) (not (eqb w 0)) (Some (take (g - f) (drop f s)))
 
       after_word : step n (drop at s) ≡ end_step (is_unit (take (g - f) (drop f s))) This (((e - at) + w) + (g - f)) (drop g s)
       unfolding unit_step
@@ -114,12 +114,12 @@ module _ (n : ℕ) (s : List ℕ) (at : ℕ) where
       word_bad h = after_word ∙ rw h
 
       -- the text ends behind the unit
-      pub unit_last : is_unit (take (g - f) (drop f s)) ≡ true → length s ≤ g → step n (drop at s) ≡ stop (component (take (e - at) (drop at s)) (not (eqb w 0)) (some (take (g - f) (drop f s))))
+      pub unit_last : is_unit (take (g - f) (drop f s)) ≡ true → length s ≤ g → step n (drop at s) ≡ stop (component (take (e - at) (drop at s)) (not (eqb w 0)) (Some (take (g - f) (drop f s))))
       unfolding end_step
       unit_last h k = after_word ∙ rw (h, drop_of_length-le s k)
 
       -- white space of x bytes follows the unit
-      pub unit_more : is_unit (take (g - f) (drop f s)) ≡ true → g < length s → (x : ℕ) → x ≡ white_len (drop g s) → step n (drop at s) ≡ go (component (take (e - at) (drop at s)) (not (eqb w 0)) (some (take (g - f) (drop f s)))) (g + x - at)
+      pub unit_more : is_unit (take (g - f) (drop f s)) ≡ true → g < length s → (x : ℕ) → x ≡ white_len (drop g s) → step n (drop at s) ≡ go (component (take (e - at) (drop at s)) (not (eqb w 0)) (Some (take (g - f) (drop f s)))) (g + x - at)
       unit_more h k x X =
           let p : 0 < length (drop g s) = omega (arith, length-drop g s) in
           let m : (((e - at) + w) + (g - f)) + white_len (drop g s) ≡ g + x - at = omega arith in

@@ -1,8 +1,7 @@
 -- The division of an interval text, computed from the left: an amount, then its unit, then the white space before the next component.
 -- The limit n is the most digits behind a point. `Rattle.component.proofs.Agreement.agrees` says that it computes exactly the divisions
 -- of Grammar.antt. Assumes nothing.
-use Rattle.std.specs.Prelude.{Bool, true, false, not, List, [], ◌∷◌, ℕ, zero, suc, ◌+◌, eqb, length, take, drop}
-use Rattle.std.proofs.Math.Option.{Option, none, some}
+use Rattle.std.specs.Prelude.{Bool, true, false, not, List, [], ◌∷◌, ℕ, zero, suc, ◌+◌, eqb, length, take, drop, Option, None, Some}
 use Rattle.white.specs.WhiteSpace.{white_len}
 use Rattle.component.specs.Grammar.{Component, component}
 use Rattle.unit.specs.Units.{is_unit, word_len}
@@ -22,11 +21,11 @@ end_step true c k (b ∷ t) = go c (k + white_len (b ∷ t))
 
 -- an amount a, spaced or not, of k bytes with its white space, before the unit
 unfoldable pub unit_step : List ℕ → Bool → ℕ → List ℕ → Step
-unit_step a s k t = end_step (is_unit (take (word_len t) t)) (component a s (some (take (word_len t) t))) (k + word_len t) (drop (word_len t) t)
+unit_step a s k t = end_step (is_unit (take (word_len t) t)) (component a s (Some (take (word_len t) t))) (k + word_len t) (drop (word_len t) t)
 
 -- an amount a of k bytes, before t
 unfoldable pub rest_step : List ℕ → ℕ → List ℕ → Step
-rest_step a k [] = stop (component a false none)
+rest_step a k [] = stop (component a false None)
 rest_step a k (b ∷ t) = unit_step a (not (eqb (white_len (b ∷ t)) 0)) (k + white_len (b ∷ t)) (drop (white_len (b ∷ t)) (b ∷ t))
 
 -- the text t begins with an amount of so many bytes, or with none
@@ -40,18 +39,18 @@ step n t = amount_step (amount_len n t) t
 
 -- a component before a division
 unfoldable pub before : Component → Option (List Component) → Option (List Component)
-before c none = none
-before c (some d) = some (c ∷ d)
+before c None = None
+before c (Some d) = Some (c ∷ d)
 
 -- a step, then what f makes of the text that many bytes on
 unfoldable pub then : Step → (ℕ → Option (List Component)) → Option (List Component)
-then bad f = none
-then (stop c) f = some (c ∷ [])
+then bad f = None
+then (stop c) f = Some (c ∷ [])
 then (go c k) f = before c (f k)
 
 -- a division of at most j components
 unfoldable pub divide_by : ℕ → ℕ → List ℕ → Option (List Component)
-divide_by n zero t = none
+divide_by n zero t = None
 divide_by n (suc j) t = then (step n t) (λ k. divide_by n j (drop k t))
 
 -- the division of a text, if it has one: no more components than bytes

@@ -3,8 +3,7 @@
 -- no plus, no hh:mm:ss without units, none of the ISO 8601 forms, and exactly one white space character where PostgreSQL takes any
 -- number. The limit n is the most digits behind a point. Division.antt computes the division, and the theorem
 -- `Rattle.component.proofs.Agreement.agrees` says that it is this one. Assumes nothing.
-use Rattle.std.specs.Prelude.{◌≡◌, Bool, true, false, List, [], ◌∷◌, ◌++◌, ℕ}
-use Rattle.std.proofs.Math.Option.{Option, none, some}
+use Rattle.std.specs.Prelude.{◌≡◌, Bool, true, false, List, [], ◌∷◌, ◌++◌, ℕ, Option, None, Some}
 use Rattle.white.specs.WhiteSpace.{White}
 use Rattle.unit.specs.Units.{is_unit}
 use Rattle.amount.specs.Grammar.{Value, Amount}
@@ -21,14 +20,14 @@ component a s u = record { amount = a; spaced = s; unit = u }
 
 -- a text that is one component with its unit: "amount and unit glued, or amount, one whitespace character, unit"
 pub data Complete (n : ℕ) : List ℕ → Component → Type 0 where
-  glued : {a u : List ℕ} {v : Value} → Amount n a v → is_unit u ≡ true → Complete n (a ++ u) (component a false (some u))
-  apart : {a w u : List ℕ} {v : Value} → Amount n a v → White w → is_unit u ≡ true → Complete n (a ++ (w ++ u)) (component a true (some u))
+  glued : {a u : List ℕ} {v : Value} → Amount n a v → is_unit u ≡ true → Complete n (a ++ u) (component a false (Some u))
+  apart : {a w u : List ℕ} {v : Value} → Amount n a v → White w → is_unit u ≡ true → Complete n (a ++ (w ++ u)) (component a true (Some u))
 
 -- a text and its division: "one or more components, parted by one whitespace character", of which "only the last may lack its unit, and
 -- then no whitespace follows its amount"
 pub data Divides (n : ℕ) : List ℕ → List Component → Type 0 where
   -- an amount alone
-  bare : {a : List ℕ} {v : Value} → Amount n a v → Divides n a (component a false none ∷ [])
+  bare : {a : List ℕ} {v : Value} → Amount n a v → Divides n a (component a false None ∷ [])
   -- a component with its unit, and nothing behind it
   last : {t : List ℕ} {c : Component} → Complete n t c → Divides n t (c ∷ [])
   -- a component with its unit, white space, and what is divided further

@@ -5,25 +5,23 @@ ghost use Rattle.amount.specs.Grammar.{precision};
 ghost use Rattle.component.specs.Read.{taken_is};
 
 use amount::IntervalAmount;
-use unit::{IntervalUnit, UnitRead};
+use unit::IntervalUnit;
 
 mod reader;
 mod split;
 
-// The component at a place: none, and where its amount or its unit cannot be read; one that ends the text; or one with its unit and the
-// place behind the white space that follows.
+// The component at a place: one that ends the text; or one with its unit and the place behind the white space that follows.
 // No unit stands for the default.
-#[derive(Clone, Copy)]
+#[derive(Clone, Copy, Debug, PartialEq, Eq)]
 pub enum Piece {
-    Bad(usize),
-    Last(IntervalAmount, UnitRead),
+    Last(IntervalAmount, Option<IntervalUnit>),
     More(IntervalAmount, IntervalUnit, usize),
 }
 
-// What a reader takes: the component at its place, and the place where it stands behind it.
-#[derive(Clone, Copy)]
+// What a reader takes: the component at its place, or where its amount or its unit cannot be read; and the place where it stands behind it.
+#[derive(Clone, Copy, Debug, PartialEq, Eq)]
 pub struct Taken {
-    pub piece: Piece,
+    pub piece: Result<Piece, usize>,
     pub at: usize,
 }
 
@@ -32,10 +30,7 @@ pub fn component(text: &[u8], at: usize) -> Taken
     ensures { taken_is precision text.now at result }
 {
     if text.len() < at {
-        return Taken {
-            piece: Piece::Bad(at),
-            at,
-        };
+        return Taken { piece: Err(at), at };
     }
     reader::component_at(text, at)
 }

@@ -29,7 +29,7 @@ impl<'a> Reader<'a> {
     }
 
     // The component at its place.
-    pub fn next(self) -> Piece
+    pub fn next(self) -> Result<Piece, usize>
         requires { self.at ≤ length self.text.now }
         ensures { piece_is precision self.entry.text.now self.entry.at result }
     {
@@ -37,7 +37,7 @@ impl<'a> Reader<'a> {
     }
 
     // Moved on behind a component that was read at its place.
-    pub fn after(self, piece: Piece) -> Reader<'a>
+    pub fn after(self, piece: Result<Piece, usize>) -> Reader<'a>
         ensures { (result.text ≡ self.entry.text) × (result.at ≡ place_after self.entry.text.now self.entry.at piece) }
     {
         let at = split::place_after(self.text, self.at, piece);

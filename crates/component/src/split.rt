@@ -1,74 +1,67 @@
 // The components of a text: Rust's `split_interval_components`, one component at a place, with the text and the place by value.
 ghost use Rattle.std.specs.Prelude.{◌≡◌, not, cond, ◌≤◌, length, get_or};
 ghost use Rattle.amount.specs.Grammar.{precision};
+ghost use Rattle.amount.specs.Read.{ReadIs, value_of};
 ghost use Rattle.component.specs.Fault.{in_amount};
 ghost use Rattle.component.specs.Read.{piece_is, place_after};
-ghost use Rattle.component.specs.declared.Piece.TheVariants.{Bad};
-ghost use Rattle.amount.specs.Read.{ReadIs};
 
 use crate::Piece;
-use amount::{AmountRead, IntervalAmount};
-use unit::{UnitRead, WordRead, words};
+use amount::IntervalAmount;
+use unit::{Word, words};
 
 // A byte that ends an amount piece: no digit, no point, no minus.
+#[tactic(auto, unfolding(crate::specs::Fault::in_amount))]
 pub fn not_interval_amount(b: u8) -> bool
     ensures { result ≡ not (in_amount b) }
 {
-    if text::digits::digit(b) < 10 {
-        return false;
-    }
-    if b == b'.' {
-        return false;
-    }
-    b != b'-'
+    !matches!(b, b'0'..=b'9' | b'.' | b'-')
 }
 
-// No unit where one was looked for, behind an amount that ends at `end`; where the amount piece goes on there, as in `1-2 days`, the amount is
-// none already.
-pub fn bad_unit(text: &[u8], at: usize, end: usize, began: usize) -> Piece
-    ensures { result ≡ Bad (cond (in_amount (get_or text.now end 0)) at began) }
+// Where a component goes wrong whose unit, looked for from `began` on, is none, behind an amount that ends at `end`: there, or at its
+// amount, if the amount piece goes on, as in `1-2 days`.
+pub fn bad_unit(text: &[u8], at: usize, end: usize, began: usize) -> usize
+    ensures { result ≡ cond (in_amount (get_or text.now end 0)) at began }
 {
     if not_interval_amount(text::byte_at(text, end)) {
-        Piece::Bad(began)
+        began
     } else {
-        Piece::Bad(at)
+        at
     }
 }
 
 // A component whose amount stands from `at` to `end`: its unit follows, glued or behind white space, or nothing does.
-pub fn unit_at(text: &[u8], at: usize, amount: IntervalAmount, end: usize) -> Piece
-    requires { ReadIs precision text.now at amount end }
+pub fn unit_at(text: &[u8], at: usize, amount: IntervalAmount, end: usize) -> Result<Piece, usize>
+    requires { ReadIs precision text.now at (value_of amount) end }
     ensures { piece_is precision text.now at result }
 {
     if text.len() <= end {
-        return Piece::Last(amount, UnitRead::None);
+        return Ok(Piece::Last(amount, None));
     }
     let from = end + words::white_len(text, end);
     match words::word_at(text, from) {
-        WordRead::None(began) => bad_unit(text, at, end, began),
-        WordRead::Last(unit) => Piece::Last(amount, UnitRead::Unit(unit)),
-        WordRead::More(unit, next) => Piece::More(amount, unit, next),
+        Ok(Word::Last(unit)) => Ok(Piece::Last(amount, Some(unit))),
+        Ok(Word::More(unit, next)) => Ok(Piece::More(amount, unit, next)),
+        Err(began) => Err(bad_unit(text, at, end, began)),
     }
 }
 
 // The component at a place.
-pub fn split_interval_component(text: &[u8], at: usize) -> Piece
+pub fn split_interval_component(text: &[u8], at: usize) -> Result<Piece, usize>
     requires { at ≤ length text.now }
     ensures { piece_is precision text.now at result }
 {
-    match amount::amount_at(text, at) {
-        AmountRead::Read(amount, end) => unit_at(text, at, amount, end),
-        AmountRead::Bad(began) => Piece::Bad(began),
-    }
+    let (amount, end) = amount::amount_at(text, at)?;
+    unit_at(text, at, amount, end)
 }
 
 // Where a reader goes on behind a component: it stays where there is none.
-pub fn place_after(text: &[u8], at: usize, piece: Piece) -> usize
+#[tactic(auto, unfolding(crate::specs::Read::place_after))]
+pub fn place_after(text: &[u8], at: usize, piece: Result<Piece, usize>) -> usize
     ensures { result ≡ place_after text.now at piece }
 {
     match piece {
-        Piece::Bad(_) => at,
-        Piece::Last(_, _) => text.len(),
-        Piece::More(_, _, next) => next,
+        Ok(Piece::Last(_, _)) => text.len(),
+        Ok(Piece::More(_, _, next)) => next,
+        Err(_) => at,
     }
 }

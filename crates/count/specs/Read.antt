@@ -1,31 +1,22 @@
 -- What the answers of `count` say: a count of its kind, or none. Assumes nothing.
-use Rattle.std.proofs.Math.Option.{Option, none, some}
-use Rattle.std.specs.Prelude.{ℤ}
-use Rattle.count.specs.declared.MaybeDays.{MaybeDays}
-use Rattle.count.specs.declared.MaybeDays.TheVariants.{Some as SomeDays, None as NoDays}
-use Rattle.count.specs.declared.MaybeMillis.{MaybeMillis}
-use Rattle.count.specs.declared.MaybeMillis.TheVariants.{Some as SomeMillis, None as NoMillis}
-use Rattle.count.specs.declared.MaybeMonths.{MaybeMonths}
-use Rattle.count.specs.declared.MaybeMonths.TheVariants.{Some as SomeMonths, None as NoMonths}
-use Rattle.count.specs.declared.MaybeNanos.{MaybeNanos}
-use Rattle.count.specs.declared.MaybeNanos.TheVariants.{Some as SomeNanos, None as NoNanos}
+use Rattle.std.specs.Prelude.{Option, option_map, ℤ}
+use Rattle.count.specs.declared.Days.{Days}
+use Rattle.count.specs.declared.Millis.{Millis}
+use Rattle.count.specs.declared.Months.{Months}
+use Rattle.count.specs.declared.Nanos.{Nanos}
 
 -- the months that fit, or none
-abbrev pub maybe_months : MaybeMonths → Option ℤ
-maybe_months (SomeMonths n) = some n.0
-maybe_months NoMonths = none
+abbrev pub maybe_months : Option Months → Option ℤ
+maybe_months = option_map (λ n. n.0)
 
 -- the days that fit, or none
-abbrev pub maybe_days : MaybeDays → Option ℤ
-maybe_days (SomeDays n) = some n.0
-maybe_days NoDays = none
+abbrev pub maybe_days : Option Days → Option ℤ
+maybe_days = option_map (λ n. n.0)
 
 -- the nanoseconds that fit, or none
-abbrev pub maybe_nanos : MaybeNanos → Option ℤ
-maybe_nanos (SomeNanos n) = some n.0
-maybe_nanos NoNanos = none
+abbrev pub maybe_nanos : Option Nanos → Option ℤ
+maybe_nanos = option_map (λ n. n.0)
 
 -- the milliseconds that fit, or none
-abbrev pub maybe_millis : MaybeMillis → Option ℤ
-maybe_millis (SomeMillis n) = some n.0
-maybe_millis NoMillis = none
+abbrev pub maybe_millis : Option Millis → Option ℤ
+maybe_millis = option_map (λ n. n.0)

@@ -3,7 +3,7 @@
 use mathlib.Core.Path.{◌≡◌, refl}
 use mathlib.Core.Logic.{◌↔◌}
 use mathlib.Core.List.{List}
-use mathlib.Core.Option.{Option, none, some}
+use Rattle.std.specs.Prelude.{Option, None, Some}
 use Prim.Native.Nat.{ℕ}
 use native.Mathlib.Omega.{arith}
 use lib.IntN.{ℤ}
@@ -40,8 +40,8 @@ meant c bytes ends cells (too_few_cells h) = ends_or_cells
 
 -- each answer has a number of document 01's list, or 13, or 255
 pub numbered : (m : Option Column) (bytes ends : List ℕ) (cells : ℕ) → Numbered (in_column m bytes ends cells)
-numbered none bytes ends cells = no_column
-numbered (some c) bytes ends cells = meant c bytes ends cells ((agrees (column c) bytes ends cells (whole (column c) bytes ends cells)).1 refl)
+numbered None bytes ends cells = no_column
+numbered (Some c) bytes ends cells = meant c bytes ends cells ((agrees (column c) bytes ends cells (whole (column c) bytes ends cells)).1 refl)
 
 abbrev Every : Whole → Type 0
 Every (all_accepted zs) = Unit

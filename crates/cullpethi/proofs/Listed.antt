@@ -4,7 +4,7 @@ use mathlib.Core.Path.{◌≡◌, refl, sym, ◌∙◌}
 use mathlib.Core.Bool.{Bool, true, false, cond}
 use mathlib.Core.Logic.{◌↔◌}
 use mathlib.Core.List.{List}
-use mathlib.Core.Option.{Option, none, some}
+use Rattle.std.specs.Prelude.{Option, None, Some}
 use Prim.Native.Nat.{ℕ, ◌≤◌}
 use native.Mathlib.Omega.{arith}
 use lib.Dec.{leb, eqb, lit≤}
@@ -68,12 +68,12 @@ then_numbered (refusal why h) f q = refusal why h
 -- ---- stamps
 
 time_part : (z : ℤ) (o : Option Timed) → Numbered (on_time z o)
-time_part z none = refusal Time (lit≤ tt)
-time_part z (some x) = of_test (is_ending x.tail) (value (moment z x.nanos)) (refusal Tail (lit≤ tt))
+time_part z None = refusal Time (lit≤ tt)
+time_part z (Some x) = of_test (is_ending x.tail) (value (moment z x.nanos)) (refusal Tail (lit≤ tt))
 
 date_part : (t : List ℕ) (o : Option ℤ) → Numbered (on_date t o)
-date_part t none = refusal Date (lit≤ tt)
-date_part t (some z) =
+date_part t None = refusal Date (lit≤ tt)
+date_part t (Some z) =
     of_test (eqb (length t) 10) (value (moment z 0))
     (of_test (is_separator (get_or t 10 0)) (time_part z (time_of (drop 11 t))) (refusal Separator (lit≤ tt)))
 
@@ -91,15 +91,15 @@ a_site_stamp t = then_numbered (a_stamp t) (λ z. cond (is_site t) (accepted z) 
 -- ---- times of day and dates
 
 of_day : (o : Option ℕ) → Numbered (Times.on_time o)
-of_day none = refusal TimeOfDay (lit≤ tt)
-of_day (some n) = value (pos n)
+of_day None = refusal TimeOfDay (lit≤ tt)
+of_day (Some n) = value (pos n)
 
 a_time : (t : List ℕ) → Numbered (time_nanos t)
 a_time t = well_formed t (of_day (time_of_day t))
 
 a_day : (o : Option ℤ) → Numbered (on_day o)
-a_day none = refusal Date (lit≤ tt)
-a_day (some z) = value z
+a_day None = refusal Date (lit≤ tt)
+a_day (Some z) = value z
 
 named : (t : List ℕ) → Numbered (day_named t)
 unfolding plain_day
@@ -122,8 +122,8 @@ in_unit_lem k (value z) = value (quot_z z (pos k))
 in_unit_lem k (refusal why h) = refusal why h
 
 an_integer : (o : Option ℤ) → Numbered (on_integer o)
-an_integer none = refusal TimeOfDay (lit≤ tt)
-an_integer (some z) = value z
+an_integer None = refusal TimeOfDay (lit≤ tt)
+an_integer (Some z) = value z
 
 module _ (t : List ℕ) where
   stamp_column : (k : ℕ) → Numbered (timestamp_column k t)
@@ -154,13 +154,13 @@ numbered_column t c n e = number (a_column t c) e
 
 summed : (o : Option Counts) → Numbered (on_totals o)
 unfolding on_totals
-summed none = refusal Overflow (lit≤ tt)
-summed (some c) = value c
+summed None = refusal Overflow (lit≤ tt)
+summed (Some c) = value c
 
 on_division_lem : (n : ℕ) (u : IntervalUnit) (o : Option (List Component)) → Numbered (on_division n u o)
 unfolding on_division
-on_division_lem n u none = refusal Interval (lit≤ tt)
-on_division_lem n u (some d) = of_test (twice u d) (refusal RepeatedUnit (lit≤ tt)) (summed (totals n u zeros d))
+on_division_lem n u None = refusal Interval (lit≤ tt)
+on_division_lem n u (Some d) = of_test (twice u d) (refusal RepeatedUnit (lit≤ tt)) (summed (totals n u zeros d))
 
 an_interval : (n : ℕ) (u : IntervalUnit) (t : List ℕ) → Numbered (month_day_nano n u t)
 unfolding month_day_nano
@@ -168,8 +168,8 @@ an_interval n u t = of_test (utf8 t) (on_division_lem n u (divide n t)) (refusal
 
 holds : {A : Type 0} (o : Option A) → Numbered (or_narrowed o)
 unfolding or_narrowed
-holds none = refusal Narrowed (lit≤ tt)
-holds (some v) = value v
+holds None = refusal Narrowed (lit≤ tt)
+holds (Some v) = value v
 
 a_narrowed : {A : Type 0} (f : Counts → Option A) {o : Outcome Counts} → Numbered o → Numbered (narrowed f o)
 unfolding narrowed
@@ -180,8 +180,8 @@ a_narrowed f (refusal why h) = refusal why h
 
 -- 255 is said of a number that names no unit, and of nothing else
 known : (o : Option IntervalUnit) (t : List ℕ) (n : ℕ) → in_unit o t ≡ refused n → (n ≡ 255 → ⊥) → OnList n
-known none t n e h = absurd (h (sym (same e)))
-known (some u) t n e h = number (an_interval precision u t) e
+known None t n e h = absurd (h (sym (same e)))
+known (Some u) t n e h = number (an_interval precision u t) e
 
 -- each refusal but 255 is on the list
 pub listed : (c : Call) (t : List ℕ) (n : ℕ) → answer c t ≡ refused n → (n ≡ 255 → ⊥) → OnList n

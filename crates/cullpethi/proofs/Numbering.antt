@@ -1,7 +1,7 @@
 -- An interval is read in the unit that a number names, a whole column by the column that a number names. Assumes nothing.
 use mathlib.Core.Path.{◌≡◌, refl, ap, ◌∙◌}
 use mathlib.Core.List.{List}
-use mathlib.Core.Option.{Option, none, some}
+use Rattle.std.specs.Prelude.{Option, None, Some}
 use Prim.Native.Nat.{ℕ}
 use Rattle.refusal.specs.Outcome.{Outcome}
 use Rattle.amount.specs.Grammar.{precision}
@@ -21,19 +21,19 @@ use Rattle.cullpethi.specs.ColumnNumber.{in_column}
 use Rattle.cullpethi.specs.DefaultUnit.{in_unit, place_in_unit}
 
 pub in_unit_lem : {o : Outcome Counts} {u v : IntervalUnit} {m : Option IntervalUnit} (t : List ℕ)
-    → o ≡ month_day_nano precision v t → v ≡ u → some u ≡ m → o ≡ in_unit m t
+    → o ≡ month_day_nano precision v t → v ≡ u → Some u ≡ m → o ≡ in_unit m t
 in_unit_lem t e q s = e ∙ ap (λ (w : IntervalUnit). month_day_nano precision w t) q ∙ ap (λ (w : Option IntervalUnit). in_unit w t) s
 
 pub place_in_unit_lem : {o : Option ℕ} {u v : IntervalUnit} {m : Option IntervalUnit} (t : List ℕ)
-    → o ≡ place precision v t → v ≡ u → some u ≡ m → o ≡ place_in_unit m t
+    → o ≡ place precision v t → v ≡ u → Some u ≡ m → o ≡ place_in_unit m t
 place_in_unit_lem t e q s = e ∙ ap (λ (w : IntervalUnit). place precision w t) q ∙ ap (λ (w : Option IntervalUnit). place_in_unit w t) s
 
 module _ (bytes ends : List ℕ) (cells : List ℤ) (status i j : ℕ) where
-  pub in_column_lem : {m : Option Column} (r : ColumnRead) (after : List ℤ) (c : Column) → some c ≡ m
+  pub in_column_lem : {m : Option Column} (r : ColumnRead) (after : List ℤ) (c : Column) → Some c ≡ m
       → Answers (whole (column c) bytes ends (length cells)) r (length ends) cells after
       → Tells r status i j → ToldColumn (in_column m bytes ends (length cells)) status i j cells after
   in_column_lem r after c e q t = rw (← e) (rw q.0 at (t (take (length ends) after)), q.1)
 
-  pub no_column : {m : Option Column} → none ≡ m → status ≡ 255 → j ≡ i → ToldColumn (in_column m bytes ends (length cells)) status i j cells cells
+  pub no_column : {m : Option Column} → None ≡ m → status ≡ 255 → j ≡ i → ToldColumn (in_column m bytes ends (length cells)) status i j cells cells
   unfolding cells_after
   no_column e s k = rw (← e) ((s, k), refl)

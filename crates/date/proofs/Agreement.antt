@@ -4,7 +4,7 @@ use mathlib.Core.Path.{◌≡◌, refl, sym, ap, ◌∙◌, subst}
 use mathlib.Core.Bool.{Bool, true, false, cond, not, ◌&&◌, false≢true}
 use mathlib.Core.Logic.{inl, ⊎_elim, ◌↔◌}
 use mathlib.Core.List.{List, [], ◌∷◌, ◌++◌}
-use mathlib.Core.Option.{Option, none, some}
+use Rattle.std.specs.Prelude.{Option, None, Some}
 use Prim.Native.Nat.{ℕ, zero, suc, ◌+◌, ◌-◌, ◌≤◌, ◌<◌}
 use native.Mathlib.Omega.{arith}
 use native.Mathlib.Numerals.{add-one}
@@ -50,14 +50,14 @@ number_hyphen {m} (plain d) r = to_hyphen_lem m r (Numerals.all_digits d)
 number_hyphen (plus {t} d) r = ap suc (to_hyphen_lem t r (Numerals.all_digits d))
 number_hyphen (minus e d) r = absurd (false≢true e)
 
-integer_of : (sign : Bool) (bits : ℕ) {t : List ℕ} {z : ℤ} → Numeral sign t z → in_type sign bits z ≡ true → integer sign bits t ≡ some z
+integer_of : (sign : Bool) (bits : ℕ) {t : List ℕ} {z : ℤ} → Numeral sign t z → in_type sign bits z ≡ true → integer sign bits t ≡ Some z
 integer_of sign bits {t} {z} n e = rw ((Numerals.agrees sign t z).0 n, e)
 
 -- what stands behind a hyphen
 behind : (a r : List ℕ) (k : ℕ) → k ≡ length a + 1 → drop k (a ++ (0x2D ∷ r)) ≡ r
 behind a r k e = ap (λ (i : ℕ). drop i (a ++ (0x2D ∷ r))) e ∙ sym (drop-drop 1 (length a) (a ++ (0x2D ∷ r))) ∙ ap (drop 1) (drop_at a (0x2D ∷ r) (length a) refl)
 
-month_day_read : (y : ℤ) (m d : List ℕ) (n k : ℕ) → Numeral false m (pos n) → in_unsigned 32 (pos n) ≡ true → Numeral false d (pos k) → in_unsigned 32 (pos k) ≡ true → month_day (some y) (to_hyphen (m ++ (0x2D ∷ d))) (m ++ (0x2D ∷ d)) ≡ some (record { year = y; month = n; day = k })
+month_day_read : (y : ℤ) (m d : List ℕ) (n k : ℕ) → Numeral false m (pos n) → in_unsigned 32 (pos n) ≡ true → Numeral false d (pos k) → in_unsigned 32 (pos k) ≡ true → month_day (Some y) (to_hyphen (m ++ (0x2D ∷ d))) (m ++ (0x2D ∷ d)) ≡ Some (record { year = y; month = n; day = k })
 month_day_read y m d n k p q r s =
     rw (
       number_hyphen p d,
@@ -141,7 +141,7 @@ stamp_first t x e =
     (λ p. first_digit (get_or t 0 0) (and_left (is_digit (get_or t 0 0)) (is_digit (get_or t 1 0)) (and_left (two_digits t 0) _ p)))
     (λ p. clash (rw p at e))
 
-date_read : {t : List ℕ} {y : ℤ} {m d : ℕ} {z : ℤ} → DateText t y m d → civil y m d ≡ some z → plain_day t ≡ accepted z
+date_read : {t : List ℕ} {y : ℤ} {m d : ℕ} {z : ℤ} → DateText t y m d → civil y m d ≡ Some z → plain_day t ≡ accepted z
 unfolding plain_day
 date_read (compact y m d p q r) c =
     rw (
@@ -163,32 +163,32 @@ complete (of_stamp {t} x n h) =
 
 -- ---- an accepted text is a date of the grammar
 
-integer_is : (sign : Bool) (bits : ℕ) (t : List ℕ) (z : ℤ) → integer sign bits t ≡ some z → Numeral sign t z × (in_type sign bits z ≡ true)
+integer_is : (sign : Bool) (bits : ℕ) (t : List ℕ) (z : ℤ) → integer sign bits t ≡ Some z → Numeral sign t z × (in_type sign bits z ≡ true)
 integer_is sign bits t z e = by (numeral sign t) refl e
   where
-    by : (o : Option ℤ) → numeral sign t ≡ o → keep (in_type sign bits) o ≡ some z → Numeral sign t z × (in_type sign bits z ≡ true)
-    by none p q = none_some q
-    by (some y) p q =
+    by : (o : Option ℤ) → numeral sign t ≡ o → keep (in_type sign bits) o ≡ Some z → Numeral sign t z × (in_type sign bits z ≡ true)
+    by None p q = none_some q
+    by (Some y) p q =
         by_test (in_type sign bits y)
-        (λ r. let v : some y ≡ some z = rw r at q in let w : y ≡ z = cc in ((Numerals.agrees sign t z).1 (p ∙ ap some w), rw w at r))
+        (λ r. let v : Some y ≡ Some z = rw r at q in let w : y ≡ z = cc in ((Numerals.agrees sign t z).1 (p ∙ ap Some w), rw w at r))
         (λ r. none_some (rw r at q))
 
 record Three (o p q : Option ℤ) (z : ℤ) : Type 0 where
   year : ℤ
   month : ℕ
   day : ℕ
-  year_is : o ≡ some year
-  month_is : p ≡ some (pos month)
-  day_is : q ≡ some (pos day)
-  named : civil year month day ≡ some z
+  year_is : o ≡ Some year
+  month_is : p ≡ Some (pos month)
+  day_is : q ≡ Some (pos day)
+  named : civil year month day ≡ Some z
 
-three_of : (o p q : Option ℤ) (z : ℤ) → day_with (numbers o p q) ≡ some z → Three o p q z
-three_of none p q z e = none_some e
-three_of (some y) none q z e = none_some e
-three_of (some y) (some m) none z e = none_some e
-three_of (some y) (some (negsuc m)) (some d) z e = none_some e
-three_of (some y) (some (pos m)) (some (negsuc d)) z e = none_some e
-three_of (some y) (some (pos m)) (some (pos d)) z e = record { year = y; month = m; day = d; year_is = refl; month_is = refl; day_is = refl; named = e }
+three_of : (o p q : Option ℤ) (z : ℤ) → day_with (numbers o p q) ≡ Some z → Three o p q z
+three_of None p q z e = none_some e
+three_of (Some y) None q z e = none_some e
+three_of (Some y) (Some m) None z e = none_some e
+three_of (Some y) (Some (negsuc m)) (Some d) z e = none_some e
+three_of (Some y) (Some (pos m)) (Some (negsuc d)) z e = none_some e
+three_of (Some y) (Some (pos m)) (Some (pos d)) z e = record { year = y; month = m; day = d; year_is = refl; month_is = refl; day_is = refl; named = e }
 
 -- a text up to its first hyphen, the hyphen, and the rest
 at_hyphen : (t : List ℕ) → to_hyphen t < length t → t ≡ take (to_hyphen t) t ++ (0x2D ∷ drop (to_hyphen t + 1) t)
@@ -217,7 +217,7 @@ record DateIs (t : List ℕ) (z : ℤ) : Type 0 where
   month : ℕ
   day : ℕ
   text : DateText t year month day
-  named : civil year month day ≡ some z
+  named : civil year month day ≡ Some z
 
 -- the sign s, the year in the n bytes before the first hyphen of r, the month in the k before the first of q, and the day behind it
 signed_parts : (s : ℕ) (r : List ℕ) (n : ℕ) (q : List ℕ) (k : ℕ) (z : ℤ) → is_sign s ≡ true → n ≡ to_hyphen r → q ≡ drop (n + 1) r → k ≡ to_hyphen q → 4 ≤ n → n < length r → k < length q → Three (integer true 32 (take (n + 1) (s ∷ r))) (integer false 32 (take k q)) (integer false 32 (drop (k + 1) q)) z → DateIs (s ∷ r) z
@@ -243,7 +243,7 @@ signed_parts s r n q k z g en eq ek four l u x =
     second : q ≡ take k q ++ (0x2D ∷ drop (k + 1) q)
     second = rw ek (at_hyphen q (rw ek at u))
 
-signed_sound : (s : ℕ) (r : List ℕ) (z : ℤ) → is_sign s ≡ true → signed_day (s ∷ r) ≡ some z → DateIs (s ∷ r) z
+signed_sound : (s : ℕ) (r : List ℕ) (z : ℤ) → is_sign s ≡ true → signed_day (s ∷ r) ≡ Some z → DateIs (s ∷ r) z
 unfolding extended_ymd
 signed_sound s r z g e =
     by_test (leb 4 (to_hyphen r) && ltb (to_hyphen r + 1) (length (s ∷ r)))
@@ -256,7 +256,7 @@ signed_sound s r z g e =
     more : drop (to_hyphen r + 2) (s ∷ r) ≡ drop (to_hyphen r + 1) r
     more = let same : to_hyphen r + 2 ≡ suc (to_hyphen r + 1) = omega arith in ap (λ (i : ℕ). drop i (s ∷ r)) same
 
-    month_sound : (q : List ℕ) → q ≡ drop (to_hyphen r + 1) r → 4 ≤ to_hyphen r → to_hyphen r < length r → day_with (month_day (integer true 32 (take (to_hyphen r + 1) (s ∷ r))) (to_hyphen q) q) ≡ some z → DateIs (s ∷ r) z
+    month_sound : (q : List ℕ) → q ≡ drop (to_hyphen r + 1) r → 4 ≤ to_hyphen r → to_hyphen r < length r → day_with (month_day (integer true 32 (take (to_hyphen r + 1) (s ∷ r))) (to_hyphen q) q) ≡ Some z → DateIs (s ∷ r) z
     month_sound q eq four l e =
         by_test (ltb (to_hyphen q) (length q))
         (λ u. signed_parts s r (to_hyphen r) q (to_hyphen q) z g refl eq refl four l (ltb-true (to_hyphen q) (length q) u) (three_of (integer true 32 (take (to_hyphen r + 1) (s ∷ r))) (integer false 32 (take (to_hyphen q) q)) (integer false 32 (drop (to_hyphen q + 1) q)) z (rw u at e)))
@@ -269,9 +269,9 @@ record LastIs (y : ℤ) (m : ℕ) (r : List ℕ) (z : ℤ) : Type 0 where
   figures : OneOrTwo day
   none_left : no_digits ignored ≡ true
   text : r ≡ day ++ ignored
-  named : civil y m (value 0 day) ≡ some z
+  named : civil y m (value 0 day) ≡ Some z
 
-last_sound : (y : ℤ) (m : ℕ) (r : List ℕ) (z : ℤ) → last_day y m r ≡ some z → LastIs y m r z
+last_sound : (y : ℤ) (m : ℕ) (r : List ℕ) (z : ℤ) → last_day y m r ≡ Some z → LastIs y m r z
 unfolding no_digits
 last_sound y m [] z e = none_some e
 last_sound y m (a ∷ []) z e =
@@ -279,7 +279,7 @@ last_sound y m (a ∷ []) z e =
     (λ p. one_left a [] p refl (rw (and_false (is_digit a), p) at e))
     (λ p. none_some (rw (and_false (is_digit a), p) at e))
   where
-    one_left : (a : ℕ) (i : List ℕ) → is_digit a ≡ true → no_digits i ≡ true → civil y m (worth a) ≡ some z → LastIs y m (a ∷ i) z
+    one_left : (a : ℕ) (i : List ℕ) → is_digit a ≡ true → no_digits i ≡ true → civil y m (worth a) ≡ Some z → LastIs y m (a ∷ i) z
     one_left a i p q e = record { day = a ∷ []; ignored = i; figures = one (one_figure a p); none_left = q; text = refl; named = rw (one_value a) e }
 last_sound y m (a ∷ b ∷ r) z e =
     by_test (two_digits (a ∷ b ∷ []) 0 && no_digits r)
@@ -320,7 +320,7 @@ from_month t m r z l f q w x =
     v : t ≡ y ++ (0x2D ∷ (m ++ (0x2D ∷ (x.day ++ x.ignored))))
     v = w ∙ ap (λ (u : List ℕ). get_or t 0 0 ∷ get_or t 1 0 ∷ get_or t 2 0 ∷ get_or t 3 0 ∷ 0x2D ∷ (m ++ (0x2D ∷ u))) x.text
 
-hyphen_sound : (t : List ℕ) (z : ℤ) → length t ≤ 10 → eqb (get_or t 4 0) 0x2D ≡ true → hyphen_day t ≡ some z → DateIs t z
+hyphen_sound : (t : List ℕ) (z : ℤ) → length t ≤ 10 → eqb (get_or t 4 0) 0x2D ≡ true → hyphen_day t ≡ Some z → DateIs t z
 hyphen_sound t z l h e =
     by_test (four_digits t && (two_digits t 5 && eqb (get_or t 7 0) 0x2D))
     (λ p.
@@ -340,7 +340,7 @@ hyphen_sound t z l h e =
     (rw (one_value (get_or t 5 0)) (last_sound (pos (four_at t)) (worth (get_or t 5 0)) (drop 7 t) z (rw (p, q) at e))))
     (λ q. none_some (rw (p, q) at e)))
 
-compact_sound : (t : List ℕ) (z : ℤ) → compact_day t ≡ some z → DateIs t z
+compact_sound : (t : List ℕ) (z : ℤ) → compact_day t ≡ Some z → DateIs t z
 compact_sound t z e =
     by_test (eqb (length t) 8 && (four_digits t && (two_digits t 4 && two_digits t 6)))
     (λ p.
@@ -361,7 +361,7 @@ compact_sound t z e =
     }))
     (λ p. none_some (rw p at e))
 
-short_sound : (t : List ℕ) (z : ℤ) → length t ≤ 10 → short_day t ≡ some z → DateIs t z
+short_sound : (t : List ℕ) (z : ℤ) → length t ≤ 10 → short_day t ≡ Some z → DateIs t z
 unfolding short_day
 short_sound t z l e =
     by_test (eqb (get_or t 4 0) 0x2D) (λ h. hyphen_sound t z l h (rw h at e)) (λ h. compact_sound t z (rw h at e))
@@ -380,16 +380,16 @@ sound t z u e =
     dated u x = of_date z x.text u x.named
 
     signed_day_lem : (s : ℕ) (r : List ℕ) → utf8 (s ∷ r) ≡ true → is_sign s ≡ true → (o : Option ℤ) → signed_day (s ∷ r) ≡ o → on_day o ≡ accepted z → NamesDay (s ∷ r) z
-    signed_day_lem s r u g none p e = clash e
-    signed_day_lem s r u g (some y) p e = let v : y ≡ z = cc in dated u (signed_sound s r z g (p ∙ ap some v))
+    signed_day_lem s r u g None p e = clash e
+    signed_day_lem s r u g (Some y) p e = let v : y ≡ z = cc in dated u (signed_sound s r z g (p ∙ ap Some v))
 
     by_sign : (t : List ℕ) → utf8 t ≡ true → is_sign (get_or t 0 0) ≡ true → on_day (signed_day t) ≡ accepted z → NamesDay t z
     by_sign [] u g e = absurd (false≢true g)
     by_sign (s ∷ r) u g e = signed_day_lem s r u g (signed_day (s ∷ r)) refl e
 
     on_day_lem : (o : Option ℤ) → short_day t ≡ o → length t ≤ 10 → on_day o ≡ accepted z → NamesDay t z
-    on_day_lem none p l e = clash e
-    on_day_lem (some y) p l e = let v : y ≡ z = cc in dated u (short_sound t z l (p ∙ ap some v))
+    on_day_lem None p l e = clash e
+    on_day_lem (Some y) p l e = let v : y ≡ z = cc in dated u (short_sound t z l (p ∙ ap Some v))
 
     on_stamp : (o : Outcome Moment) → plain_moment t ≡ o → 10 < length t → and_then o (λ x. accepted x.day) ≡ accepted z → NamesDay t z
     on_stamp (accepted x) p l e = let v : x.day ≡ z = cc in rw (← v) (of_stamp x (Stamps.sound t x p) l)
@@ -453,16 +453,16 @@ read_utf8 t z e d =
     dated {t} x d = ascii_utf8 t (ascii_date x.text d)
 
     signed_day_lem : (s : ℕ) (r : List ℕ) → is_sign s ≡ true → (o : Option ℤ) → signed_day (s ∷ r) ≡ o → on_day o ≡ accepted z → is_digit (get_or (s ∷ r) (length (s ∷ r) - 1) 0) ≡ true → utf8 (s ∷ r) ≡ true
-    signed_day_lem s r g none p e d = clash e
-    signed_day_lem s r g (some y) p e d = dated (signed_sound s r y g p) d
+    signed_day_lem s r g None p e d = clash e
+    signed_day_lem s r g (Some y) p e d = dated (signed_sound s r y g p) d
 
     by_sign : (t : List ℕ) → is_sign (get_or t 0 0) ≡ true → on_day (signed_day t) ≡ accepted z → is_digit (get_or t (length t - 1) 0) ≡ true → utf8 t ≡ true
     by_sign [] g e d = absurd (false≢true g)
     by_sign (s ∷ r) g e d = signed_day_lem s r g (signed_day (s ∷ r)) refl e d
 
     on_day_lem : (o : Option ℤ) → short_day t ≡ o → length t ≤ 10 → on_day o ≡ accepted z → utf8 t ≡ true
-    on_day_lem none p l e = clash e
-    on_day_lem (some y) p l e = dated (short_sound t y l p) d
+    on_day_lem None p l e = clash e
+    on_day_lem (Some y) p l e = dated (short_sound t y l p) d
 
     on_stamp : (o : Outcome Moment) → plain_moment t ≡ o → and_then o (λ x. accepted x.day) ≡ accepted z → utf8 t ≡ true
     on_stamp (accepted x) p e = Stamps.read_utf8 t x p

@@ -3,7 +3,7 @@ use mathlib.Core.Path.{◌≡◌, refl, sym, ◌∙◌}
 use mathlib.Core.Bool.{true, false, false≢true}
 use mathlib.Core.Logic.{◌↔◌, ⊎_elim}
 use mathlib.Core.List.{List, [], ◌∷◌}
-use mathlib.Core.Option.{Option, none, some}
+use Rattle.std.specs.Prelude.{Option, None, Some}
 use Prim.Native.Nat.{ℕ, ◌≤◌, ◌<◌}
 use native.Mathlib.Omega.{arith}
 use lib.Dec.{eqb, leb, lit<}
@@ -44,8 +44,8 @@ in_utf8_lem t o u = rw u
 
 -- the day that a date names is none where the text names no day
 on_date : (t : List ℕ) (o : Option ℤ) → on_day o ≡ day_named t → ((z : ℤ) → NamesDay t z → ⊥) → day_named t ≡ refused 2
-on_date t none e h = sym e
-on_date t (some z) e h = absurd (h z ((agrees t z).1 (sym e)))
+on_date t None e h = sym e
+on_date t (Some z) e h = absurd (h z ((agrees t z).1 (sym e)))
 
 dates : (t : List ℕ) → utf8 t ≡ true → DateForm t → ((z : ℤ) → NamesDay t z → ⊥) → day_named t ≡ refused 2
 dates t u f h =
@@ -93,8 +93,8 @@ into (out_of_range {t} z n f) = rw ((agrees t z).0 n, f)
 module _ (t : List ℕ) where
   -- where a date of this form is refused, it names no day
   unnamed : utf8 t ≡ true → DateForm t → (o : Option ℤ) → on_day o ≡ day_named t → (n : ℕ) → day_named t ≡ refused n → Refuses t n
-  unnamed u f (some z) e n p = clash (sym (e ∙ p))
-  unnamed u f none e n p =
+  unnamed u f (Some z) e n p = clash (sym (e ∙ p))
+  unnamed u f None e n p =
       let q : ◌≡◌ {A = Outcome ℤ} (refused 2) (refused n) = e ∙ p in
       rw (← same q) (no_date ((utf.agrees t).1 u) f (λ z k. clash (e ∙ (agrees t z).0 k)))
 

@@ -1,7 +1,6 @@
 -- What a date reads as, computed, with the refusals 1 to 6 of document 01 in order. `Rattle.date.proofs.Agreement` joins the computation
 -- to the grammar. Assumes nothing.
-use Rattle.std.specs.Prelude.{Bool, cond, ◌||◌, List, ℕ, eqb, leb, length, get_or, ℤ}
-use Rattle.std.proofs.Math.Option.{Option, none, some}
+use Rattle.std.specs.Prelude.{Bool, cond, ◌||◌, List, ℕ, eqb, leb, length, get_or, ℤ, Option, None, Some}
 use Rattle.calendar.specs.Calendar.{civil}
 use Rattle.number.specs.Widths.{in_signed}
 use Rattle.refusal.specs.Outcome.{Outcome, accepted, refused, because, in_utf8, and_then}
@@ -17,8 +16,8 @@ is_sign b = eqb b 0x2B || eqb b 0x2D
 
 -- the day with these numbers, if the calendar has it
 abbrev pub day_with : Option Numbers → Option ℤ
-day_with none = none
-day_with (some x) = civil x.year x.month x.day
+day_with None = None
+day_with (Some x) = civil x.year x.month x.day
 
 abbrev pub signed_day : List ℕ → Option ℤ
 signed_day t = day_with (extended_ymd t)
@@ -27,8 +26,8 @@ signed_day t = day_with (extended_ymd t)
 
 -- 2: no shape of a date, or no day of the calendar
 abbrev pub on_day : Option ℤ → Outcome ℤ
-on_day none = refused 2
-on_day (some z) = accepted z
+on_day None = refused 2
+on_day (Some z) = accepted z
 
 -- the day that a text names; one of more than 10 bytes without a sign is read as a stamp, whose refusals are 2 to 5
 unfoldable pub plain_day : List ℕ → Outcome ℤ

@@ -1,8 +1,7 @@
 -- The texts of dates, as relations (document 01, "Dates and stamps"). Of the unsigned forms RFC 3339 has yyyy-mm-dd alone and ISO 8601
 -- yyyymmdd too; the signed form is ISO 8601's expanded representation, with the month and the day as Rust's integers. And why any other
 -- text is refused. Assumes nothing.
-use Rattle.std.specs.Prelude.{◌≡◌, true, false, List, ◌∷◌, ◌++◌, ℕ, ◌≤◌, ◌<◌, length, ℤ, pos}
-use Rattle.std.proofs.Math.Option.{some}
+use Rattle.std.specs.Prelude.{◌≡◌, true, false, List, ◌∷◌, ◌++◌, ℕ, ◌≤◌, ◌<◌, length, ℤ, pos, Some}
 use Rattle.calendar.specs.Calendar.{civil}
 use Rattle.number.specs.Widths.{in_signed, in_unsigned}
 use Rattle.number.specs.Decimal.{Numeral}
@@ -36,7 +35,7 @@ pub data DateText : List ℕ → ℤ → ℕ → ℕ → Type 0 where
 
 -- a text and the day that it names: a date, or a stamp of more than 10 bytes, of which the day counts
 pub data NamesDay : List ℕ → ℤ → Type 0 where
-  of_date : {t : List ℕ} {y : ℤ} {m d : ℕ} (z : ℤ) → DateText t y m d → utf8 t ≡ true → civil y m d ≡ some z → NamesDay t z
+  of_date : {t : List ℕ} {y : ℤ} {m d : ℕ} (z : ℤ) → DateText t y m d → utf8 t ≡ true → civil y m d ≡ Some z → NamesDay t z
   of_stamp : {t : List ℕ} (x : Moment) → Names t x → 10 < length t → NamesDay t x.day
 
 -- a text and the day that Date32 holds

@@ -1,7 +1,8 @@
 -- The narrowed forms as the code makes them: months alone, and days with milliseconds. Assumes nothing.
 use mathlib.Core.Path.{◌≡◌, refl, sym, ap, ◌∙◌}
 use mathlib.Core.Bool.{true, false}
-use mathlib.Core.Option.{Option, none, some, none-ne-some}
+use Rattle.std.specs.Prelude.{Option, None, Some}
+use Rattle.std.proofs.lemmas.Option.{none-some}
 use mathlib.Core.List.{List}
 use Prim.Native.Nat.{ℕ, suc, ◌%◌, ◌^◌}
 use native.Mathlib.Omega.{arith}
@@ -36,11 +37,11 @@ with_place m e = (m.0, (m.1, (e, placed e)))
 -- ---- narrowed by f: a value, none, or a refusal that stands
 
 module _ {A : Type 0} (f : Counts → Option A) {o : Outcome Counts} where
-  pub narrows_to : {c : Counts} {v : A} → o ≡ accepted c → some v ≡ f c → accepted v ≡ narrowed f o
+  pub narrows_to : {c : Counts} {v : A} → o ≡ accepted c → Some v ≡ f c → accepted v ≡ narrowed f o
   unfolding narrowed or_narrowed
   narrows_to e h = rw (e, ← h)
 
-  pub narrows_none : {c : Counts} → o ≡ accepted c → none ≡ f c → refused 11 ≡ narrowed f o
+  pub narrows_none : {c : Counts} → o ≡ accepted c → None ≡ f c → refused 11 ≡ narrowed f o
   unfolding narrowed or_narrowed
   narrows_none e h = rw (e, ← h)
 
@@ -63,26 +64,26 @@ not_zero w z h = ne_eqb (nat_abs z) 0 (λ e. h (zero z e))
 -- ---- months alone
 
 module _ (m d n : ℤ) where
-  pub some_days : (of_z w32 d ≡ 0 → ⊥) → none ≡ to_year_months (counts m d n)
+  pub some_days : (of_z w32 d ≡ 0 → ⊥) → None ≡ to_year_months (counts m d n)
   unfolding to_year_months
   some_days h = rw (not_zero w32 d h)
 
-  pub some_nanos : (of_z w64 n ≡ 0 → ⊥) → none ≡ to_year_months (counts m d n)
+  pub some_nanos : (of_z w64 n ≡ 0 → ⊥) → None ≡ to_year_months (counts m d n)
   unfolding to_year_months
   some_nanos h = rw (not_zero w64 n h, and_false (eqb (nat_abs d) 0))
 
-  pub months_alone : SFits w32 d → SFits w64 n → of_z w32 d ≡ 0 → of_z w64 n ≡ 0 → some m ≡ to_year_months (counts m d n)
+  pub months_alone : SFits w32 d → SFits w64 n → of_z w32 d ≡ 0 → of_z w64 n ≡ 0 → Some m ≡ to_year_months (counts m d n)
   unfolding to_year_months
   months_alone fd fn h k = rw (is_zero w32 fd h, is_zero w64 fn k)
 
 -- ---- months times 30 plus days
 
-some_is : {x y : ℤ} → some x ≡ some y → x ≡ y
+some_is : {x y : ℤ} → Some x ≡ Some y → x ≡ y
 some_is e = cc
 
 -- the months m times 30 fit, as z
 module _ {m : ℤ} (fm : SFits w32 m) (d : ℤ) where
-  pub days_fit : {z : ℤ} → some z ≡ fit 31 (rd w32 m *ℤ pos 30) → fit 31 (rd w32 z +ℤ d) ≡ in_days m d
+  pub days_fit : {z : ℤ} → Some z ≡ fit 31 (rd w32 m *ℤ pos 30) → fit 31 (rd w32 z +ℤ d) ≡ in_days m d
   unfolding in_days
   days_fit {z} =
       rw (to_z-of_z fm) (λ e. by_test (in_signed 31 (m *ℤ pos 30))
@@ -90,13 +91,13 @@ module _ {m : ℤ} (fm : SFits w32 m) (d : ℤ) where
       let q : z ≡ m *ℤ pos 30 = some_is (e ∙ rw h) in
       let f : SFits w32 (m *ℤ pos 30) = record { sfits = ltb-true (mag (m *ℤ pos 30)) (2 ^ 31) h } in
       rw (q, to_z-of_z f, h))
-      (λ h. absurd (none-ne-some z (sym (e ∙ rw h)))))
+      (λ h. absurd (none-some z (sym (e ∙ rw h)))))
 
-  pub days_over : none ≡ fit 31 (rd w32 m *ℤ pos 30) → none ≡ in_days m d
+  pub days_over : None ≡ fit 31 (rd w32 m *ℤ pos 30) → None ≡ in_days m d
   unfolding in_days
   days_over =
       rw (to_z-of_z fm) (λ e. by_test (in_signed 31 (m *ℤ pos 30))
-      (λ h. absurd (none-ne-some (m *ℤ pos 30) (e ∙ rw h)))
+      (λ h. absurd (none-some (m *ℤ pos 30) (e ∙ rw h)))
       (λ h. rw h))
 
 -- ---- nanoseconds over 1,000,000
@@ -112,7 +113,7 @@ module _ {n : ℤ} (f : SFits w64 n) where
   rest : nat_abs n % 1_000_000 ≡ nat_abs (rem_z n (pos 1_000_000))
   rest = sym (rem_size n 1_000_000)
 
-  pub no_millis : (of_z w64 (rem_z (rd w64 n) (pos 1_000_000)) ≡ 0 → ⊥) → none ≡ in_millis n
+  pub no_millis : (of_z w64 (rem_z (rd w64 n) (pos 1_000_000)) ≡ 0 → ⊥) → None ≡ in_millis n
   unfolding in_millis
   no_millis = rw (to_z-of_z f) (λ h. rw (rest, not_zero w64 (rem_z n (pos 1_000_000)) h))
 

@@ -1,6 +1,5 @@
 -- What the functions behind the narrowed readers find on the way: no reader's contract names any of it. Assumes nothing.
-use Rattle.std.specs.Prelude.{cond, ◌%◌, eqb, ℤ, pos, nat_abs, ◌+ℤ◌, ◌*ℤ◌}
-use Rattle.std.proofs.Math.Option.{Option, none, some}
+use Rattle.std.specs.Prelude.{cond, ◌%◌, eqb, ℤ, pos, nat_abs, ◌+ℤ◌, ◌*ℤ◌, Option, None, Some}
 use Rattle.std.specs.Int.Signed.{quot_z}
 use Rattle.number.specs.Widths.{in_signed, fit}
 use Rattle.rule.specs.Meaning.{DayTime, day_time_of}
@@ -9,19 +8,19 @@ use Rattle.interval.specs.declared.MaybeDayTime.TheVariants.{Some as SomeDayTime
 
 -- months times 30 plus days, if each step fits 32 bits
 unfoldable pub in_days : ℤ → ℤ → Option ℤ
-in_days m d = cond (in_signed 31 (m *ℤ pos 30)) (fit 31 (m *ℤ pos 30 +ℤ d)) none
+in_days m d = cond (in_signed 31 (m *ℤ pos 30)) (fit 31 (m *ℤ pos 30 +ℤ d)) None
 
 -- nanoseconds over 1,000,000, if that divides them and the quotient fits 32 bits
 unfoldable pub in_millis : ℤ → Option ℤ
-in_millis n = cond (eqb (nat_abs n % 1_000_000) 0) (fit 31 (quot_z n (pos 1_000_000))) none
+in_millis n = cond (eqb (nat_abs n % 1_000_000) 0) (fit 31 (quot_z n (pos 1_000_000))) None
 
 -- days and milliseconds, or none
 abbrev pub maybe_day_time : MaybeDayTime → Option DayTime
-maybe_day_time (SomeDayTime v) = some (day_time_of v.days.0 v.millis.0)
-maybe_day_time NoDayTime = none
+maybe_day_time (SomeDayTime v) = Some (day_time_of v.days.0 v.millis.0)
+maybe_day_time NoDayTime = None
 
 -- both, if there are both
 unfoldable pub day_time_if : Option ℤ → Option ℤ → Option DayTime
-day_time_if none m = none
-day_time_if (some d) none = none
-day_time_if (some d) (some m) = some (day_time_of d m)
+day_time_if None m = None
+day_time_if (Some d) None = None
+day_time_if (Some d) (Some m) = Some (day_time_of d m)

@@ -1,6 +1,5 @@
 -- What the answers of the narrowed readers say: months, or days and milliseconds, or a refusal and its place. Assumes nothing.
-use Rattle.std.proofs.Math.Option.{Option, none}
-use Rattle.std.specs.Prelude.{ℕ, ℤ}
+use Rattle.std.specs.Prelude.{Option, None, ℕ, ℤ}
 use Rattle.refusal.specs.Outcome.{Outcome, accepted}
 use Rattle.place.specs.Read.{place_in, because_of}
 use Rattle.rule.specs.Meaning.{DayTime, day_time_of}
@@ -16,7 +15,7 @@ year_month_outcome (YearMonthRefused why) = because_of why
 
 -- the place of the refusal, if it has one
 abbrev pub year_month_place : YearMonthRead → Option ℕ
-year_month_place (YearMonthValue m) = none
+year_month_place (YearMonthValue m) = None
 year_month_place (YearMonthRefused why) = place_in why
 
 -- days and milliseconds, or a refusal
@@ -26,5 +25,5 @@ day_time_outcome (DayTimeRefused why) = because_of why
 
 -- the place of the refusal, if it has one
 abbrev pub day_time_place : DayTimeRead → Option ℕ
-day_time_place (DayTimeValue v) = none
+day_time_place (DayTimeValue v) = None
 day_time_place (DayTimeRefused why) = place_in why

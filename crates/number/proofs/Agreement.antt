@@ -1,10 +1,10 @@
 -- The definitions agree: what the grammar `Numeral` says of a text is what `numeral` computes, `in_signed` is the usual range of a
 -- signed width, and a number read at more bits and then narrowed is read at fewer. Assumes nothing.
-use mathlib.Core.Path.{◌≡◌, refl, sym, ap, ◌∙◌}
+use mathlib.Core.Path.{◌≡◌, refl}
 use mathlib.Core.Bool.{Bool, true, false, ◌&&◌, false≢true}
 use mathlib.Core.List.{List, [], ◌∷◌}
 use mathlib.Core.Logic.{◌↔◌}
-use mathlib.Core.Option.{Option, none, some}
+use Rattle.std.specs.Prelude.{Option, None, Some}
 use Prim.Native.Nat.{ℕ, ◌-◌, ◌^◌, ◌<◌}
 use native.Mathlib.Omega.{arith}
 use native.Mathlib.Nat.{lt_of_lt_of_le}
@@ -13,17 +13,12 @@ use lib.ListN.{length}
 use lib.IntN.{ℤ, pos, negsuc}
 use lib.Pow.{pow_pos, pow_mono}
 use lib.Signed.{le_z, mag}
-use mir.Syntax.{w64}
-use mir.Facts.{to_z-of_z}
 use borrow.Author.Tests.{eqb-true, ltb-true, lt-ltb, ne_eqb, le-leb}
 use Rattle.text.specs.Digits.{is_digit, digits, value}
 use Rattle.text.proofs.Bools.{by_test, both_ways, and_false, and_left, and_right, within_is}
-use Rattle.number.specs.declared.Int64.{Int64}
-use Rattle.number.specs.declared.Int64.TheVariants.{Some as Some64, None as None64}
-use Rattle.number.specs.Widths.{in_signed, in_type, keep, signed, int64}
+use Rattle.number.specs.Widths.{in_signed, in_type, keep, signed}
 use Rattle.number.specs.Decimal.{Digits, one_or_more, Numeral, plain, plus, minus, unsigned, numeral, integer}
 use Rattle.number.proofs.Zed.{le_yes, of_mag}
-use Rattle.number.proofs.Ranges.{rd}
 
 -- ---- one digit or more
 
@@ -36,32 +31,32 @@ some_digits (one_or_more p q) = omega arith
 
 -- ---- the grammar and the computation
 
-written : (neg : Bool) {t : List ℕ} → Digits t → unsigned neg t ≡ some (signed neg (value 0 t))
+written : (neg : Bool) {t : List ℕ} → Digits t → unsigned neg t ≡ Some (signed neg (value 0 t))
 written neg (one_or_more p q) = rw (p, q)
 
 -- a byte that is a digit is no sign
 digit_no_sign : (b c : ℕ) → c < 0x30 → is_digit b ≡ true → eqb b c ≡ false
 digit_no_sign b c h e = ne_eqb b c (λ p. omega (arith, within_is 0x30 b 0x39 e))
 
-computes : (sign : Bool) {t : List ℕ} {z : ℤ} → Numeral sign t z → numeral sign t ≡ some z
+computes : (sign : Bool) {t : List ℕ} {z : ℤ} → Numeral sign t z → numeral sign t ≡ Some z
 computes sign (plain (one_or_more {b} {t} p q)) =
     rw (digit_no_sign b 0x2B (omega arith) p, digit_no_sign b 0x2D (omega arith) p, and_false sign) (written false (one_or_more p q))
 computes sign (plus d) = written false d
 computes sign (minus e d) = rw e (written true d)
 
-clash {ℓ} : {A : Type ℓ} {z : ℤ} → none ≡ some z → A
+clash {ℓ} : {A : Type ℓ} {z : ℤ} → None ≡ Some z → A
 clash e = let x : ◌≡◌ {A = ℕ} 0 1 = cc in absurd (omega arith)
 
-read_back : (neg : Bool) (t : List ℕ) (z : ℤ) → unsigned neg t ≡ some z → Digits t × (signed neg (value 0 t) ≡ z)
+read_back : (neg : Bool) (t : List ℕ) (z : ℤ) → unsigned neg t ≡ Some z → Digits t × (signed neg (value 0 t) ≡ z)
 read_back neg [] z e = clash e
 read_back neg (b ∷ t) z e =
     by_test (is_digit b && digits t)
     (λ p.
-    let q : some (signed neg (value 0 (b ∷ t))) ≡ some z = rw p at e in
+    let q : Some (signed neg (value 0 (b ∷ t))) ≡ Some z = rw p at e in
     (one_or_more (and_left (is_digit b) (digits t) p) (and_right (is_digit b) (digits t) p), cc))
-    (λ p. let q : none ≡ some z = rw p at e in clash q)
+    (λ p. let q : None ≡ Some z = rw p at e in clash q)
 
-writes : (sign : Bool) (t : List ℕ) (z : ℤ) → numeral sign t ≡ some z → Numeral sign t z
+writes : (sign : Bool) (t : List ℕ) (z : ℤ) → numeral sign t ≡ Some z → Numeral sign t z
 writes sign [] z e = clash e
 writes sign (b ∷ t) z e =
     by_test (eqb b 0x2B)
@@ -73,7 +68,7 @@ writes sign (b ∷ t) z e =
     rw (eqb-true b 0x2D (and_right sign (eqb b 0x2D) q), ← r.1) (minus (and_left sign (eqb b 0x2D) q) r.0))
     (λ q. let r = read_back false (b ∷ t) z (rw (p, q) at e) in rw (← r.1) (plain r.0)))
 
-pub agrees : (sign : Bool) (t : List ℕ) (z : ℤ) → Numeral sign t z ↔ (numeral sign t ≡ some z)
+pub agrees : (sign : Bool) (t : List ℕ) (z : ℤ) → Numeral sign t z ↔ (numeral sign t ≡ Some z)
 agrees sign t z = (computes sign, writes sign t z)
 
 -- a text writes one number
@@ -92,8 +87,8 @@ range k z = (into z, λ p. lt-ltb (mag z) (2 ^ k) (of_mag z (omega (arith, le_ye
 -- ---- narrowing
 
 twice : (f g : ℤ → Bool) → ((z : ℤ) → g z ≡ true → f z ≡ true) → (o : Option ℤ) → keep g (keep f o) ≡ keep g o
-twice f g h none = refl
-twice f g h (some z) = by_test (f z) (λ e. rw e) (λ e. by_test (g z) (λ p. both_ways (f z) e (h z p)) (λ p. rw (e, p)))
+twice f g h None = refl
+twice f g h (Some z) = by_test (f z) (λ e. rw e) (λ e. by_test (g z) (λ p. both_ways (f z) e (h z p)) (λ p. rw (e, p)))
 
 below : (sign : Bool) (j k : ℕ) → j < k → (z : ℤ) → in_type sign j z ≡ true → in_type true k z ≡ true
 below true j k h z e = lt-ltb (mag z) (2 ^ (k - 1)) (lt_of_lt_of_le (ltb-true (mag z) (2 ^ (j - 1)) e) (pow_mono (omega arith)))
@@ -103,15 +98,3 @@ below false j k h (negsuc n) e = absurd (false≢true e)
 -- a number read as one of k signed bits and kept where it is one of a type of fewer bits is read as one of that type
 pub fewer_bits : (sign : Bool) (j k : ℕ) → j < k → (t : List ℕ) → keep (in_type sign j) (integer true k t) ≡ keep (in_type sign j) (numeral true t)
 fewer_bits sign j k h t = twice (in_type true k) (in_type sign j) (below sign j k h) (numeral true t)
-
--- the same of an answer r of 64 bits: it holds x, as a signed local hands it on, or nothing
-
-module _ (sign : Bool) (j : ℕ) (h : j < 64) (t : List ℕ) {r : Int64} (p : int64 r ≡ integer true 64 t) where
-  read_as : {v : Int64} → r ≡ v → keep (in_type sign j) (int64 v) ≡ keep (in_type sign j) (numeral true t)
-  read_as q = ap (keep (in_type sign j)) (ap int64 (sym q) ∙ p) ∙ fewer_bits sign j 64 h t
-
-  pub read_some : {x : ℤ} → r ≡ Some64 x → mag x < 2 ^ 63 → keep (in_type sign j) (some (rd w64 x)) ≡ keep (in_type sign j) (numeral true t)
-  read_some {x} q l = rw (to_z-of_z {w = w64} {z = x} (record { sfits = l })) (read_as q)
-
-  pub read_none : r ≡ None64 → none ≡ keep (in_type sign j) (numeral true t)
-  read_none q = read_as q

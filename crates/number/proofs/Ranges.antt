@@ -1,7 +1,7 @@
 -- The range of a signed width: its ends, what a signed local reads back, and the answer for a number in the range, above it and
 -- below it. Assumes nothing.
 use mathlib.Core.Path.{◌≡◌}
-use mathlib.Core.Option.{none, some}
+use Rattle.std.specs.Prelude.{None, Some}
 use Prim.Native.Nat.{◌+◌, ◌-◌, ◌^◌, ◌≤◌, ◌<◌}
 use native.Mathlib.Omega.{arith}
 use lib.IntN.{ℤ, pos, negsuc}
@@ -24,13 +24,13 @@ top w = pos (2 ^ hbits w - 1)
 abbrev pub bottom : Width → ℤ
 bottom w = negsuc (2 ^ hbits w - 1)
 
-pub fit_yes : {w : Width} {z : ℤ} → SFits w z → some (rd w z) ≡ fit (hbits w) z
+pub fit_yes : {w : Width} {z : ℤ} → SFits w z → Some (rd w z) ≡ fit (hbits w) z
 fit_yes {w} {z} f = rw (to_z-of_z f, lt-ltb (mag z) (2 ^ hbits w) f.sfits)
 
-pub fit_above : (w : Width) (z : ℤ) → N z + 2 ^ hbits w ≤ P z → none ≡ fit (hbits w) z
+pub fit_above : (w : Width) (z : ℤ) → N z + 2 ^ hbits w ≤ P z → None ≡ fit (hbits w) z
 fit_above w (pos n) h = rw (le-ltb n (2 ^ hbits w) (omega arith))
 fit_above w (negsuc n) h = rw (le-ltb n (2 ^ hbits w) (omega arith))
 
-pub fit_below : (w : Width) (z : ℤ) → P z + 2 ^ hbits w < N z → none ≡ fit (hbits w) z
+pub fit_below : (w : Width) (z : ℤ) → P z + 2 ^ hbits w < N z → None ≡ fit (hbits w) z
 fit_below w (pos n) h = rw (le-ltb n (2 ^ hbits w) (omega arith))
 fit_below w (negsuc n) h = rw (le-ltb n (2 ^ hbits w) (omega arith))

@@ -3,8 +3,7 @@
 -- the type. Document 01 names it for the years, months and days of signed dates, for interval amounts and for the time columns.
 -- `Numeral` says which number a text writes, `numeral` computes it, and the theorem `Rattle.number.proofs.Agreement.agrees` joins them.
 -- Assumes nothing.
-use Rattle.std.specs.Prelude.{◌≡◌, Bool, true, false, cond, ◌&&◌, List, [], ◌∷◌, ℕ, eqb, ℤ, pos}
-use Rattle.std.proofs.Math.Option.{Option, none, some}
+use Rattle.std.specs.Prelude.{◌≡◌, Bool, true, false, cond, ◌&&◌, List, [], ◌∷◌, ℕ, eqb, ℤ, pos, Option, None, Some}
 use Rattle.text.specs.Digits.{is_digit, digits, value}
 use Rattle.number.specs.Widths.{in_type, signed, keep}
 
@@ -20,12 +19,12 @@ pub data Numeral (sign : Bool) : List ℕ → ℤ → Type 0 where
 
 -- the number of one or more digits after a sign, true for minus
 abbrev pub unsigned : Bool → List ℕ → Option ℤ
-unsigned neg [] = none
-unsigned neg (b ∷ t) = cond (is_digit b && digits t) (some (signed neg (value 0 (b ∷ t)))) none
+unsigned neg [] = None
+unsigned neg (b ∷ t) = cond (is_digit b && digits t) (Some (signed neg (value 0 (b ∷ t)))) None
 
 -- the number that a text writes, if it writes one
 abbrev pub numeral : Bool → List ℕ → Option ℤ
-numeral sign [] = none
+numeral sign [] = None
 numeral sign (b ∷ t) =
     cond (eqb b 0x2B) (unsigned false t) (cond (sign && eqb b 0x2D) (unsigned true t) (unsigned false (b ∷ t)))
 

@@ -1,13 +1,6 @@
 -- Numbers of a width, signed or not, and what the answers of `number` say of them. Assumes nothing.
-use Rattle.std.specs.Prelude.{Bool, true, false, cond, ℕ, ◌-◌, ◌/◌, ◌^◌, ltb, ℤ, pos, negsuc, neg_ℤ}
-use Rattle.std.proofs.Math.Option.{Option, none, some}
+use Rattle.std.specs.Prelude.{Bool, true, false, cond, ℕ, ◌-◌, ◌/◌, ◌^◌, ltb, ℤ, pos, negsuc, neg_ℤ, Option, None, Some, option_map}
 use Rattle.std.specs.Int.Signed.{mag}
-use Rattle.number.specs.declared.Int32.{Int32}
-use Rattle.number.specs.declared.Int32.TheVariants.{Some as Some32, None as None32}
-use Rattle.number.specs.declared.Int64.{Int64}
-use Rattle.number.specs.declared.Int64.TheVariants.{Some as Some64, None as None64}
-use Rattle.number.specs.declared.Nat32.{Nat32}
-use Rattle.number.specs.declared.Nat32.TheVariants.{Some as SomeNat32, None as NoNat32}
 
 -- z is a number of k + 1 signed bits, from -2^k to 2^k - 1: `mag z` is n both for n and for -(n + 1)
 abbrev pub in_signed : ℕ → ℤ → Bool
@@ -25,16 +18,16 @@ in_type false bits z = in_unsigned bits z
 
 -- a number, where it passes a test
 abbrev pub keep : (ℤ → Bool) → Option ℤ → Option ℤ
-keep test none = none
-keep test (some z) = cond (test z) (some z) none
+keep test None = None
+keep test (Some z) = cond (test z) (Some z) None
 
 -- z, where it is a number of k + 1 signed bits
 abbrev pub fit : ℕ → ℤ → Option ℤ
-fit k z = keep (in_signed k) (some z)
+fit k z = keep (in_signed k) (Some z)
 
 -- z, where it is a number of k unsigned bits
 abbrev pub fit_unsigned : ℕ → ℤ → Option ℤ
-fit_unsigned k z = keep (in_unsigned k) (some z)
+fit_unsigned k z = keep (in_unsigned k) (Some z)
 
 -- the number with a sign, true for minus, and a size
 abbrev pub signed : Bool → ℕ → ℤ
@@ -46,15 +39,6 @@ abbrev pub floor : ℤ → ℕ → ℤ
 floor (pos a) m = pos (a / m)
 floor (negsuc a) m = negsuc (a / m)
 
--- the number that an answer holds, if it holds one
-abbrev pub int32 : Int32 → Option ℤ
-int32 (Some32 z) = some z
-int32 None32 = none
-
-abbrev pub int64 : Int64 → Option ℤ
-int64 (Some64 z) = some z
-int64 None64 = none
-
-abbrev pub nat32 : Nat32 → Option ℤ
-nat32 (SomeNat32 n) = some (pos n)
-nat32 NoNat32 = none
+-- a number with no sign, as one of ℤ
+abbrev pub nat32 : Option ℕ → Option ℤ
+nat32 = option_map pos

@@ -2,7 +2,7 @@
 use mathlib.Core.Path.{◌≡◌, refl, sym, ap, ◌∙◌}
 use mathlib.Core.Bool.{true, false, ◌&&◌}
 use mathlib.Core.List.{List, [], ◌∷◌, ◌++◌}
-use mathlib.Core.Option.{Option, none, some}
+use Rattle.std.specs.Prelude.{Option, None, Some}
 use Prim.Native.Nat.{ℕ, suc, ◌+◌, ◌≤◌}
 use native.Mathlib.Nat.{add-zero, zero-add}
 use native.Mathlib.Omega.{arith}
@@ -25,7 +25,7 @@ fitting bytes ends cells e =
     let b = in_order (length bytes) 0 ends in
     (and_left b (leb (length ends) cells) e, leb-true (length ends) cells (and_right b (leb (length ends) cells) e))
 
-both : {m n i j : ℕ} → ◌≡◌ {A = Option (ℕ × ℕ)} (some (m, i)) (some (n, j)) → (m ≡ n) × (i ≡ j)
+both : {m n i j : ℕ} → ◌≡◌ {A = Option (ℕ × ℕ)} (Some (m, i)) (Some (n, j)) → (m ≡ n) × (i ≡ j)
 both {m} {n} {i} {j} e =
     let q : ◌≡◌ {A = ℕ × ℕ} (m, i) (n, j) = cc in
     (ap (λ (p : ℕ × ℕ). p.0) q, ap (λ (p : ℕ × ℕ). p.1) q)
@@ -64,13 +64,13 @@ module _ (read : List ℕ → Outcome ℤ) where
         cells_hold = λ cells h. rw e (a.cells_hold (set cells i z) (rw (length-set cells i z) (omega (arith, h))) ∙ put_first i z a.values cells h);
       }
 
-  on_text_lem : (i : ℕ) (t : List ℕ) (texts : List (List ℕ)) (o : Outcome ℤ) → read t ≡ o → (none ≡ refused_from read (suc i) texts → AllRead (suc i) texts)
-      → none ≡ or_later o i (refused_from read (suc i) texts) → AllRead i (t ∷ texts)
+  on_text_lem : (i : ℕ) (t : List ℕ) (texts : List (List ℕ)) (o : Outcome ℤ) → read t ≡ o → (None ≡ refused_from read (suc i) texts → AllRead (suc i) texts)
+      → None ≡ or_later o i (refused_from read (suc i) texts) → AllRead i (t ∷ texts)
   unfolding or_later
   on_text_lem i t texts (accepted z) q later e = read_one i t texts z q (later e)
   on_text_lem i t texts (refused n) q later e = none_some e
 
-  all_read : (i : ℕ) (texts : List (List ℕ)) → none ≡ refused_from read i texts → AllRead i texts
+  all_read : (i : ℕ) (texts : List (List ℕ)) → None ≡ refused_from read i texts → AllRead i texts
   unfolding read_all refused_from stored_from
   all_read i [] e =
       record {
@@ -81,8 +81,8 @@ module _ (read : List ℕ → Outcome ℤ) where
   all_read i (t ∷ texts) e = on_text_lem i t texts (read t) refl (all_read (suc i) texts) e
 
   at_text : (i : ℕ) (t : List ℕ) (texts : List (List ℕ)) (n j : ℕ) (o : Outcome ℤ) → read t ≡ o
-      → (some (n, j) ≡ refused_from read (suc i) texts → OneRefused (suc i) texts n j)
-      → some (n, j) ≡ or_later o i (refused_from read (suc i) texts) → OneRefused i (t ∷ texts) n j
+      → (Some (n, j) ≡ refused_from read (suc i) texts → OneRefused (suc i) texts n j)
+      → Some (n, j) ≡ or_later o i (refused_from read (suc i) texts) → OneRefused i (t ∷ texts) n j
   unfolding or_later read_all on_text behind
   at_text i t texts n j (accepted z) q later e =
       let r = later e in
@@ -91,7 +91,7 @@ module _ (read : List ℕ → Outcome ℤ) where
       let p : m ≡ n = sym (both e).0 in
       record { index = 0; counted = omega (arith, (both e).1); answer = rw (q, p) refl }
 
-  one_refused : (i : ℕ) (texts : List (List ℕ)) (n j : ℕ) → some (n, j) ≡ refused_from read i texts → OneRefused i texts n j
+  one_refused : (i : ℕ) (texts : List (List ℕ)) (n j : ℕ) → Some (n, j) ≡ refused_from read i texts → OneRefused i texts n j
   unfolding refused_from
   one_refused i [] n j e = none_some (sym e)
   one_refused i (t ∷ texts) n j e = at_text i t texts n j (read t) refl (one_refused (suc i) texts n j) e
@@ -102,7 +102,7 @@ module _ (read : List ℕ → Outcome ℤ) where
     answers e = rw fit e
 
     -- the answer and the cells, of texts that are all accepted
-    pub accepted_all : (after : List ℤ) → none ≡ refused_from read 0 (cut bytes 0 ends) → after ≡ stored_from read 0 (cut bytes 0 ends) cells
+    pub accepted_all : (after : List ℤ) → None ≡ refused_from read 0 (cut bytes 0 ends) → after ≡ stored_from read 0 (cut bytes 0 ends) cells
         → (all_accepted (take (length ends) after) ≡ whole read bytes ends (length cells)) × (after ≡ cells_after (whole read bytes ends (length cells)) cells)
     unfolding stored cells_after
     accepted_all after e q =
@@ -114,7 +114,7 @@ module _ (read : List ℕ → Outcome ℤ) where
         (ap all_accepted (ap (take (length ends)) s ∙ h.0) ∙ sym w, s ∙ ap (λ (x : Whole). cells_after x cells) (sym w))
 
     -- and of texts of which one is refused
-    pub refused_one : (n j : ℕ) → some (n, j) ≡ refused_from read 0 (cut bytes 0 ends)
+    pub refused_one : (n j : ℕ) → Some (n, j) ≡ refused_from read 0 (cut bytes 0 ends)
         → (first_refused n j ≡ whole read bytes ends (length cells)) × (cells ≡ cells_after (whole read bytes ends (length cells)) cells)
     unfolding cells_after
     refused_one n j e =

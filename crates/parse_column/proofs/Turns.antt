@@ -2,7 +2,7 @@
 use mathlib.Core.Path.{◌≡◌, refl}
 use mathlib.Core.Bool.{Bool, true, false, cond}
 use mathlib.Core.List.{List, ◌∷◌}
-use mathlib.Core.Option.{none, some}
+use Rattle.std.specs.Prelude.{None, Some}
 use Prim.Native.Nat.{ℕ, ◌+◌, ◌-◌, ◌≤◌, ◌<◌}
 use native.Mathlib.Numerals.{add-one}
 use lib.IntN.{ℤ}
@@ -35,7 +35,7 @@ module _ (read : List ℕ → Outcome ℤ) (bytes ends : List ℕ) (from i : ℕ
     unfolding refused_from or_later
     goes_on e = rw (this_text, ← e, add-one) refl
 
-    pub stops : {n : ℕ} → refused n ≡ read text_at → refused_from read i rest_of ≡ some (n, i)
+    pub stops : {n : ℕ} → refused n ≡ read text_at → refused_from read i rest_of ≡ Some (n, i)
     unfolding refused_from or_later
     stops e = rw (this_text, ← e) refl
 
@@ -63,7 +63,7 @@ module _ (read : List ℕ → Outcome ℤ) (bytes ends : List ℕ) (from i : ℕ
   pub stored_all : (store : Bool) (cells : List ℤ) → stored_from read i rest_of cells ≡ cells → cond store (stored_from read i rest_of cells) cells ≡ cells
   stored_all store cells e = rw e (same_cells store cells)
 
-  pub none_left : length ends ≤ i → refused_from read i rest_of ≡ none
+  pub none_left : length ends ≤ i → refused_from read i rest_of ≡ None
   unfolding refused_from cut
   none_left h = rw (drop_of_length-le ends {i = i} h) refl
 

@@ -1,23 +1,22 @@
 -- What one reading of the texts finds, text by text from a number on. Assumes nothing.
-use Rattle.std.specs.Prelude.{List, [], ◌∷◌, ℕ, suc, ℤ, set}
-use Rattle.std.proofs.Math.Option.{Option, none, some}
+use Rattle.std.specs.Prelude.{List, [], ◌∷◌, ℕ, suc, ℤ, set, Option, None, Some}
 use Rattle.refusal.specs.Outcome.{Outcome, accepted, refused, number_of}
 use Rattle.parse_column.specs.declared.texts.FirstRefused.{FirstRefused}
 use Rattle.parse_column.specs.declared.texts.FirstRefused.TheVariants.{None, At}
 
 -- the first refused text's number and index
 abbrev pub refused_at : FirstRefused → Option (ℕ × ℕ)
-refused_at None = none
-refused_at (At why i) = some (number_of why, i)
+refused_at None = None
+refused_at (At why i) = Some (number_of why, i)
 
 -- an accepted text leaves it to the later ones, a refused one is the first
 unfoldable pub or_later : Outcome ℤ → ℕ → Option (ℕ × ℕ) → Option (ℕ × ℕ)
 or_later (accepted z) i later = later
-or_later (refused n) i later = some (n, i)
+or_later (refused n) i later = Some (n, i)
 
 -- the first refused one of texts that are numbered from i on
 unfoldable pub refused_from : (List ℕ → Outcome ℤ) → ℕ → List (List ℕ) → Option (ℕ × ℕ)
-refused_from read i [] = none
+refused_from read i [] = None
 refused_from read i (t ∷ texts) = or_later (read t) i (refused_from read (suc i) texts)
 
 -- an accepted text goes on with its value, a refused one leaves the cells

@@ -1,6 +1,5 @@
 -- The numbers of the columns, the library's own: 0 TimestampNanosecond to 9 Date64. Assumes nothing.
-use Rattle.std.specs.Prelude.{List, [], ◌∷◌, map, ℕ, get_or}
-use Rattle.std.proofs.Math.Option.{Option, none, some}
+use Rattle.std.specs.Prelude.{List, [], ◌∷◌, map, ℕ, get_or, Option, None, Some}
 use Rattle.column.specs.declared.Column.{Column}
 use Rattle.column.specs.declared.Column.TheVariants.{TimestampNanosecond, TimestampMicrosecond, TimestampMillisecond, TimestampSecond, Time64Nanosecond, Time64Microsecond, Time32Millisecond, Time32Second, Date32, Date64}
 use Rattle.parse_column.specs.declared.numbers.ColumnNamed.{ColumnNamed}
@@ -15,9 +14,9 @@ columns =
 
 -- the column that a number names
 abbrev pub column_numbered : ℕ → Option Column
-column_numbered n = get_or (map some columns) n none
+column_numbered n = get_or (map Some columns) n None
 
 -- what the code's answer names
 abbrev pub column_named : ColumnNamed → Option Column
-column_named (Named c) = some c
-column_named None = none
+column_named (Named c) = Some c
+column_named None = None

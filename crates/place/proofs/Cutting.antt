@@ -4,7 +4,7 @@ use mathlib.Core.Path.{◌≡◌, refl, sym, ap, ◌∙◌}
 use mathlib.Core.Bool.{true, false}
 use mathlib.Core.Logic.{◌⊎◌, inl, inr, ⊎_elim, ◌↔◌}
 use mathlib.Core.List.{List, [], ◌∷◌, ◌++◌, append_assoc, append-nil}
-use mathlib.Core.Option.{some}
+use Rattle.std.specs.Prelude.{Some}
 use Prim.Native.Nat.{ℕ, zero, suc, ◌+◌, ◌≤◌, ◌<◌}
 use native.Mathlib.Nat.{add-zero}
 use native.Mathlib.Omega.{arith}
@@ -212,7 +212,7 @@ module _ (w : Piece) where
 
 -- such a word is parted behind its piece
 parted_at_lem : (p : ℕ) (a x : List ℕ) {l : List Piece} {d : List Pair} → all_in_amount a ≡ true → 0 < length x → in_amount (get_or x 0 0) ≡ false → Pairs l d
-    → Pairs (piece p (a ++ x) ∷ l) (pair (piece p a) false (some (piece (p + length a) x)) ∷ d)
+    → Pairs (piece p (a ++ x) ∷ l) (pair (piece p a) false (Some (piece (p + length a) x)) ∷ d)
 parted_at_lem p a [] A h e P = absurd (omega arith)
 parted_at_lem p a (b ∷ x) A h e P = parted A e P
 

@@ -5,7 +5,7 @@ use mathlib.Core.Path.{◌≡◌, refl, sym, ap, ◌∙◌}
 use mathlib.Core.Bool.{Bool, true, false, not, cond, ◌&&◌, ◌||◌, false≢true}
 use mathlib.Core.Logic.{◌↔◌}
 use mathlib.Core.List.{List, [], ◌∷◌, ◌++◌, append_assoc}
-use mathlib.Core.Option.{Option, none, some}
+use Rattle.std.specs.Prelude.{Option, None, Some}
 use Prim.Native.Nat.{ℕ}
 use Rattle.text.proofs.Bools.{both_ways, by_test, fails, holds_not}
 use Rattle.text.proofs.Logic.{none_some}
@@ -26,14 +26,14 @@ use Rattle.place.specs.Where.{or_later, bad_unit, first_bad, seen_with, none_see
 
 -- ---- the first bad piece
 
-good_unit : {o : Option Piece} → UnitPiece o → bad_unit o ≡ none
+good_unit : {o : Option Piece} → UnitPiece o → bad_unit o ≡ None
 unfolding bad_unit
 good_unit no_piece = refl
 good_unit (a_unit e) = rw e
 
 module _ (n : ℕ) where
   -- its place is the computed one
-  pub bad_computed : {d : List Pair} {p : ℕ} → FirstBad n d p → first_bad n d ≡ some p
+  pub bad_computed : {d : List Pair} {p : ℕ} → FirstBad n d p → first_bad n d ≡ Some p
   unfolding first_bad or_later bad_unit
   bad_computed (bad_amount {c} f) =
       rw (fails (is_amount n c.amount.bytes) (true_amount n c.amount.bytes) (f (amount_of n c.amount.bytes)))
@@ -41,24 +41,24 @@ module _ (n : ℕ) where
   bad_computed (later {c} A U F) = rw (amount_true n c.amount.bytes A, good_unit U, bad_computed F)
 
   -- and what is computed is its place
-  pub bad_found : (d : List Pair) {p : ℕ} → first_bad n d ≡ some p → FirstBad n d p
+  pub bad_found : (d : List Pair) {p : ℕ} → first_bad n d ≡ Some p → FirstBad n d p
   unfolding first_bad or_later bad_unit
   bad_found [] e = none_some e
   bad_found (c ∷ d) {p} e =
       by_test (is_amount n c.amount.bytes)
       (λ h. on_unit c.amount c.spaced c.unit d h (bad_found d) (rw h at e))
       (λ h.
-      let f : some c.amount.at ≡ some p = rw h at e in
+      let f : Some c.amount.at ≡ Some p = rw h at e in
       let q : c.amount.at ≡ p = cc in
       rw (← q) (bad_amount (λ v A. both_ways (is_amount n c.amount.bytes) h (amount_true n c.amount.bytes A))))
     where
-      on_unit : (a : Piece) (s : Bool) (o : Option Piece) (d : List Pair) {p : ℕ} → is_amount n a.bytes ≡ true → (first_bad n d ≡ some p → FirstBad n d p) → or_later (bad_unit o) (first_bad n d) ≡ some p → FirstBad n (pair a s o ∷ d) p
-      on_unit a s none d h F e = later (true_amount n a.bytes h) no_piece (F e)
-      on_unit a s (some w) d {p} h F e =
+      on_unit : (a : Piece) (s : Bool) (o : Option Piece) (d : List Pair) {p : ℕ} → is_amount n a.bytes ≡ true → (first_bad n d ≡ Some p → FirstBad n d p) → or_later (bad_unit o) (first_bad n d) ≡ Some p → FirstBad n (pair a s o ∷ d) p
+      on_unit a s None d h F e = later (true_amount n a.bytes h) no_piece (F e)
+      on_unit a s (Some w) d {p} h F e =
           by_test (is_unit w.bytes)
           (λ g. later (true_amount n a.bytes h) (a_unit g) (F (rw g at e)))
           (λ g.
-          let f : some w.at ≡ some p = rw g at e in
+          let f : Some w.at ≡ Some p = rw g at e in
           let q : w.at ≡ p = cc in
           rw (← q) (bad_unit_piece (true_amount n a.bytes h) g))
 
@@ -72,16 +72,16 @@ module _ {S : Type 0} (tells : S → Pair → Bool) (next : S → Pair → S) wh
 
   -- the place of the first
   unfoldable first : S → List Pair → Option ℕ
-  first s [] = none
-  first s (c ∷ d) = cond (tells s c) (some c.amount.at) (first (next s c) d)
+  first s [] = None
+  first s (c ∷ d) = cond (tells s c) (Some c.amount.at) (first (next s c) d)
 
-  no_first : (s : S) (d : List Pair) → comes s d ≡ false → first s d ≡ none
+  no_first : (s : S) (d : List Pair) → comes s d ≡ false → first s d ≡ None
   unfolding comes first
   no_first s [] h = refl
   no_first s (c ∷ d) h = by_test (tells s c) (λ e. absurd (false≢true (sym (rw e at h)))) (λ e. rw e (no_first (next s c) d (rw e at h)))
 
   -- none before it, and one with it: it is the first
-  at_first : (s : S) (front : List Pair) (c : Pair) (d : List Pair) → comes s front ≡ false → comes s (front ++ (c ∷ [])) ≡ true → first s (front ++ (c ∷ d)) ≡ some c.amount.at
+  at_first : (s : S) (front : List Pair) (c : Pair) (d : List Pair) → comes s front ≡ false → comes s (front ++ (c ∷ [])) ≡ true → first s (front ++ (c ∷ d)) ≡ Some c.amount.at
   unfolding comes first
   at_first s [] c d h g = by_test (tells s c) (λ e. rw e) (λ e. absurd (false≢true (rw e at g)))
   at_first s (x ∷ front) c d h g =
@@ -141,12 +141,12 @@ module _ (u : IntervalUnit) where
   once_in d f = fails (twice_in d) (repeats_in d).1 f
 
   -- its place is the computed one
-  pub repeat_computed : {d : List Pair} {p : ℕ} → FirstRepeat u d p → first_repeat u none_seen d ≡ some p
+  pub repeat_computed : {d : List Pair} {p : ℕ} → FirstRepeat u d p → first_repeat u none_seen d ≡ Some p
   repeat_computed (repeats_at front c d f r) =
       first_seen none_seen (front ++ (c ∷ d)) ∙ at_first was_seen seeing none_seen front c d (once_in front f) ((repeats_in (front ++ (c ∷ []))).0 r)
 
   -- none is computed where no unit comes twice
-  pub no_repeat : (d : List Pair) → (Repeats u (components d) → ⊥) → first_repeat u none_seen d ≡ none
+  pub no_repeat : (d : List Pair) → (Repeats u (components d) → ⊥) → first_repeat u none_seen d ≡ None
   no_repeat d f = first_seen none_seen d ∙ no_first was_seen seeing none_seen d (once_in d f)
 
   -- and there is one where a unit does
@@ -169,8 +169,8 @@ module _ (n : ℕ) (u : IntervalUnit) where
   adding c p = plus c (gives n u (component_of p))
 
   unfoldable missing : Option Counts → Bool
-  missing none = true
-  missing (some e) = false
+  missing None = true
+  missing (Some e) = false
 
   comes_missing : (c : Counts) (d : List Pair) → comes unfits adding c d ≡ missing (totals n u c (components d))
   unfolding comes unfits adding missing totals components
@@ -202,8 +202,8 @@ module _ (n : ℕ) (u : IntervalUnit) where
   fit_runs d A h = from (totals n u zeros (components d)) refl
     where
       from : (o : Option Counts) → totals n u zeros (components d) ≡ o → (e : Counts) × Runs n u zeros (components d) e
-      from none q = both_ways (unfit_in d) h (comes_missing zeros d ∙ rw q)
-      from (some e) q = (e, totals_runs n u zeros e A q)
+      from None q = both_ways (unfit_in d) h (comes_missing zeros d ∙ rw q)
+      from (Some e) q = (e, totals_runs n u zeros e A q)
 
   unfit_in_lem : (d : List Pair) → Amounts n (components d) → ((e : Counts) → Runs n u zeros (components d) e → ⊥) → unfit_in d ≡ true
   unfit_in_lem d A f = by_test (unfit_in d) (λ h. h) (λ h. let R = fit_runs d A h in absurd (f R.0 R.1))
@@ -214,14 +214,14 @@ module _ (n : ℕ) (u : IntervalUnit) where
   front_amounts (c ∷ a) b (one_more A M) = one_more A (front_amounts a b M)
 
   -- its place is the computed one
-  pub unfit_computed : {d : List Pair} {p : ℕ} → Amounts n (components d) → FirstUnfit n u d p → first_unfit n u zeros d ≡ some p
+  pub unfit_computed : {d : List Pair} {p : ℕ} → Amounts n (components d) → FirstUnfit n u d p → first_unfit n u zeros d ≡ Some p
   unfit_computed M (unfit_at front c d R f) =
       let b : List Pair = front ++ (c ∷ []) in
       let A : Amounts n (components b) = front_amounts b d (rw (append_assoc front (c ∷ []) d) M) in
       first_unfits zeros (front ++ (c ∷ d)) ∙ at_first unfits adding zeros front c d (runs_fit front R) (unfit_in_lem b A f)
 
   -- none is computed where there are running totals
-  pub no_unfit : (d : List Pair) {e : Counts} → Runs n u zeros (components d) e → first_unfit n u zeros d ≡ none
+  pub no_unfit : (d : List Pair) {e : Counts} → Runs n u zeros (components d) e → first_unfit n u zeros d ≡ None
   no_unfit d R = first_unfits zeros d ∙ no_first unfits adding zeros d (runs_fit d R)
 
   -- and there is one where there are not

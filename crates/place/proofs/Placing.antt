@@ -2,7 +2,7 @@
 use mathlib.Core.Path.{◌≡◌, refl, sym, ap, ◌∙◌}
 use mathlib.Core.Logic.{◌⊎◌, ⊎_elim, ◌↔◌}
 use mathlib.Core.List.{List, [], ◌∷◌, ◌++◌}
-use mathlib.Core.Option.{Option, none, some}
+use Rattle.std.specs.Prelude.{Option, None, Some}
 use Prim.Native.Nat.{ℕ, zero, suc, ◌+◌, ◌≤◌, ◌<◌}
 use native.Mathlib.Nat.{zero-add}
 use native.Mathlib.Omega.{arith}
@@ -31,13 +31,13 @@ use Rattle.place.proofs.Firsts.{bad_computed, bad_found, repeat_computed, no_rep
 
 -- components, where no piece is bad
 unfoldable where_good : Option ℕ → List Component → Option (List Component)
-where_good none d = some d
-where_good (some p) d = none
+where_good None d = Some d
+where_good (Some p) d = None
 
 before_good : (c : Component) (o : Option ℕ) (d : List Component) → before c (where_good o d) ≡ where_good o (c ∷ d)
 unfolding before where_good
-before_good c none d = refl
-before_good c (some p) d = refl
+before_good c None d = refl
+before_good c (Some p) d = refl
 
 module _ (n : ℕ) where
   -- the division that the pairs of a text tell
@@ -64,16 +64,16 @@ module _ (n : ℕ) where
           sym (good_next (on_go n p t e))
 
 -- a division's components are the pairs, and a text is divided exactly where all its pieces are good
-pub divided : (n : ℕ) (t : List ℕ) (d : List Component) → Divides n t d ↔ ((first_bad n (pairs_from 0 t) ≡ none) × (components (pairs_from 0 t) ≡ d))
+pub divided : (n : ℕ) (t : List ℕ) (d : List Component) → Divides n t d ↔ ((first_bad n (pairs_from 0 t) ≡ None) × (components (pairs_from 0 t) ≡ d))
 unfolding of_pairs where_good
 divided n t d = (λ D. from (first_bad n (pairs_from 0 t)) refl ((agrees n t d).0 D), λ e. (agrees n t d).1 (computed ∙ rw (e.0, e.1)))
   where
     computed : divide n t ≡ of_pairs n (pairs_from 0 t)
     computed = by_pieces n (suc (length t)) 0 t (omega arith)
 
-    from : (o : Option ℕ) → first_bad n (pairs_from 0 t) ≡ o → divide n t ≡ some d → (first_bad n (pairs_from 0 t) ≡ none) × (components (pairs_from 0 t) ≡ d)
-    from none q e = let c : some (components (pairs_from 0 t)) ≡ divide n t = sym (computed ∙ rw q) in (q, cc)
-    from (some p) q e = none_some (sym (computed ∙ rw q) ∙ e)
+    from : (o : Option ℕ) → first_bad n (pairs_from 0 t) ≡ o → divide n t ≡ Some d → (first_bad n (pairs_from 0 t) ≡ None) × (components (pairs_from 0 t) ≡ d)
+    from None q e = let c : Some (components (pairs_from 0 t)) ≡ divide n t = sym (computed ∙ rw q) in (q, cc)
+    from (Some p) q e = none_some (sym (computed ∙ rw q) ∙ e)
 
 -- ---- THE PLACE
 
@@ -90,7 +90,7 @@ module _ (n : ℕ) (u : IntervalUnit) (t : List ℕ) where
     unfolding place first_of or_later
     on_division_lem = rw ((Utf8Agrees.agrees t).0 (well_formed D), ((divided n t l).0 D).0)
 
-    once : (Repeats u l → ⊥) → first_repeat u none_seen d ≡ none
+    once : (Repeats u l → ⊥) → first_repeat u none_seen d ≡ None
     once f = no_repeat u d (rw own at f)
 
     with_amounts : Amounts n (components d)
@@ -111,48 +111,48 @@ module _ (n : ℕ) (u : IntervalUnit) (t : List ℕ) where
   pairs_are : Splits 0 t d
   pairs_are = (splits 0 t d).1 refl
 
-  at_8 : Means n u t (refused 8) → (p : ℕ) × Place n u t (some p)
+  at_8 : Means n u t (refused 8) → (p : ℕ) × Place n u t (Some p)
   at_8 (undivided w f) = from (first_bad n d) refl
     where
-      from : (o : Option ℕ) → first_bad n d ≡ o → (p : ℕ) × Place n u t (some p)
-      from none q = absurd (f (components d) ((divided n t (components d)).1 (q, refl)))
-      from (some p) q = (p, of_8 (undivided w f) pairs_are (bad_found n d q))
+      from : (o : Option ℕ) → first_bad n d ≡ o → (p : ℕ) × Place n u t (Some p)
+      from None q = absurd (f (components d) ((divided n t (components d)).1 (q, refl)))
+      from (Some p) q = (p, of_8 (undivided w f) pairs_are (bad_found n d q))
 
-  at_9 : Means n u t (refused 9) → (p : ℕ) × Place n u t (some p)
+  at_9 : Means n u t (refused 9) → (p : ℕ) × Place n u t (Some p)
   at_9 (repeated D r) = let F = repeat_found u d (rw (own D) at r) in (F.0, of_9 (repeated D r) pairs_are F.1)
 
-  at_10 : Means n u t (refused 10) → (p : ℕ) × Place n u t (some p)
+  at_10 : Means n u t (refused 10) → (p : ℕ) × Place n u t (Some p)
   at_10 (unfit D f g) =
       let F = unfit_found n u d (with_amounts D) (rw (own D) at g) in
       (F.0, of_10 (unfit D f g) pairs_are F.1)
 
   -- so every answer has one, or none
   some_place : {r : Outcome Counts} → Means n u t r → (o : Option ℕ) × Place n u t o
-  some_place (totalled D f R) = (none, of_value (totalled D f R))
-  some_place (not_utf8 f) = (none, of_1 (not_utf8 f))
-  some_place (undivided w f) = let P = at_8 (undivided w f) in (some P.0, P.1)
-  some_place (repeated D r) = let P = at_9 (repeated D r) in (some P.0, P.1)
-  some_place (unfit D f g) = let P = at_10 (unfit D f g) in (some P.0, P.1)
+  some_place (totalled D f R) = (None, of_value (totalled D f R))
+  some_place (not_utf8 f) = (None, of_1 (not_utf8 f))
+  some_place (undivided w f) = let P = at_8 (undivided w f) in (Some P.0, P.1)
+  some_place (repeated D r) = let P = at_9 (repeated D r) in (Some P.0, P.1)
+  some_place (unfit D f g) = let P = at_10 (unfit D f g) in (Some P.0, P.1)
 
   -- a place is the text's exactly where it is the computed one
   pub one_place : (o : Option ℕ) → Place n u t o ↔ (place n u t ≡ o)
   one_place o = let P = some_place (answered n u t) in (computed, λ e. rw (sym e ∙ computed P.1) P.1)
 
   -- 8, 9 and 10 always have a place, and nothing else has one
-  pub has_place : (k : ℕ) → Means n u t (refused k) → (k ≡ 8) ⊎ ((k ≡ 9) ⊎ (k ≡ 10)) → (p : ℕ) × (place n u t ≡ some p)
+  pub has_place : (k : ℕ) → Means n u t (refused k) → (k ≡ 8) ⊎ ((k ≡ 9) ⊎ (k ≡ 10)) → (p : ℕ) × (place n u t ≡ Some p)
   has_place k M h =
       ⊎_elim
       (λ e. from (at_8 (rw e at M)))
       (λ g. ⊎_elim (λ e. from (at_9 (rw e at M))) (λ e. from (at_10 (rw e at M))) g)
       h
     where
-      from : (p : ℕ) × Place n u t (some p) → (p : ℕ) × (place n u t ≡ some p)
+      from : (p : ℕ) × Place n u t (Some p) → (p : ℕ) × (place n u t ≡ Some p)
       from P = (P.0, computed P.1)
 
-  pub no_place : {e : Counts} → Means n u t (accepted e) → place n u t ≡ none
+  pub no_place : {e : Counts} → Means n u t (accepted e) → place n u t ≡ None
   no_place M = computed (of_value M)
 
-  pub no_place_1 : Means n u t (refused 1) → place n u t ≡ none
+  pub no_place_1 : Means n u t (refused 1) → place n u t ≡ None
   no_place_1 M = computed (of_1 M)
 
 -- the readers: a place that is computed is the text's
@@ -177,8 +177,8 @@ module _ (m : ℕ) where
 
   -- a unit piece, and pairs, begin no further than m
   unfoldable UnitIn : Option Piece → Type 0
-  UnitIn none = Unit
-  UnitIn (some w) = w.at ≤ m
+  UnitIn None = Unit
+  UnitIn (Some w) = w.at ≤ m
 
   unfoldable PairsIn : List Pair → Type 0
   PairsIn [] = Unit
@@ -208,10 +208,10 @@ module _ (m : ℕ) where
   splits_begin : {t : List ℕ} {d : List Pair} → length t ≤ m → Splits 0 t d → PairsIn d
   splits_begin h S = pairs_begin S.pairs_are (words_end S.words_are (omega arith))
 
-  place_begins : {n : ℕ} {u : IntervalUnit} {t : List ℕ} {p : ℕ} → length t ≤ m → Place n u t (some p) → p ≤ m
+  place_begins : {n : ℕ} {u : IntervalUnit} {t : List ℕ} {p : ℕ} → length t ≤ m → Place n u t (Some p) → p ≤ m
   place_begins h (of_8 M S F) = bad_begins F (splits_begin h S)
   place_begins h (of_9 M S (repeats_at front c d f r)) = pair_begins front c d (splits_begin h S)
   place_begins h (of_10 M S (unfit_at front c d R f)) = pair_begins front c d (splits_begin h S)
 
-pub inside : (n : ℕ) (u : IntervalUnit) (t : List ℕ) {p : ℕ} → place n u t ≡ some p → p ≤ length t
-inside n u t {p} e = place_begins (length t) (omega arith) ((one_place n u t (some p)).1 e)
+pub inside : (n : ℕ) (u : IntervalUnit) (t : List ℕ) {p : ℕ} → place n u t ≡ Some p → p ≤ length t
+inside n u t {p} e = place_begins (length t) (omega arith) ((one_place n u t (Some p)).1 e)

@@ -2,7 +2,7 @@
 -- and of each count that does not fit. Assumes nothing.
 use mathlib.Core.Path.{refl}
 use mathlib.Core.List.{List, [], ◌∷◌, ◌++◌}
-use mathlib.Core.Option.{Option, none, some}
+use Rattle.std.specs.Prelude.{Option, None, Some}
 use Prim.Native.Nat.{ℕ}
 use Prim.Native.String.{String}
 use Rattle.text.specs.Digits.{value, run}
@@ -24,17 +24,17 @@ use Rattle.place.specs.Where.{word_then, words_by, words, is_whole, parted_at, p
 
 -- the place in a text, with months for a unit that is left out
 abbrev told : String → ℕ → Row (Option ℕ)
-told t p = row (place precision Month (bytes t)) (some p)
+told t p = row (place precision Month (bytes t)) (Some p)
 
 abbrev no_place : String → Row (Option ℕ)
-no_place t = row (place precision Month (bytes t)) none
+no_place t = row (place precision Month (bytes t)) None
 
 -- the same of bytes, and of another default
 abbrev told_in : List ℕ → ℕ → Row (Option ℕ)
-told_in t p = row (place precision Month t) (some p)
+told_in t p = row (place precision Month t) (Some p)
 
 abbrev with_default : IntervalUnit → String → ℕ → Row (Option ℕ)
-with_default u t p = row (place precision u (bytes t)) (some p)
+with_default u t p = row (place precision u (bytes t)) (Some p)
 
 abbrev rows : List (Row (Option ℕ))
 rows =
@@ -87,7 +87,7 @@ rows =
     -- accepted, and 1
     no_place "1 year 2 days" ∷
     no_place "306783378 weeks -2 days 0.1 months" ∷
-    row (place precision Month (bytes "1 dayz " ++ (0xFF ∷ []))) none ∷
+    row (place precision Month (bytes "1 dayz " ++ (0xFF ∷ []))) None ∷
     []
 
 pub readings : Readings rows

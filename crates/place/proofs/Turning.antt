@@ -3,7 +3,7 @@
 use mathlib.Core.Path.{◌≡◌, refl, sym, ap, ◌∙◌}
 use mathlib.Core.Bool.{Bool, true, false, not}
 use mathlib.Core.List.{List, [], ◌∷◌, ◌++◌}
-use mathlib.Core.Option.{none, some}
+use Rattle.std.specs.Prelude.{None, Some}
 use Prim.Native.Nat.{ℕ, zero, suc, ◌+◌, ◌≤◌, ◌<◌}
 use native.Mathlib.Nat.{add-zero}
 use native.Mathlib.Omega.{arith}
@@ -57,11 +57,11 @@ piece_cut (suc m) (b ∷ t) h =
 
 -- ---- words as pairs
 
-pairs_alone : (w : Piece) → is_whole w ≡ true → pairs_of (w ∷ []) ≡ pair w false none ∷ []
+pairs_alone : (w : Piece) → is_whole w ≡ true → pairs_of (w ∷ []) ≡ pair w false None ∷ []
 unfolding pairs_of
 pairs_alone w e = rw e
 
-pairs_whole : (w u : Piece) (l : List Piece) → is_whole w ≡ true → pairs_of (w ∷ u ∷ l) ≡ pair w true (some u) ∷ pairs_of l
+pairs_whole : (w u : Piece) (l : List Piece) → is_whole w ≡ true → pairs_of (w ∷ u ∷ l) ≡ pair w true (Some u) ∷ pairs_of l
 unfolding pairs_of
 pairs_whole w u l e = rw e
 
@@ -79,7 +79,7 @@ module _ (p : ℕ) (t : List ℕ) where
   whole_piece = eq-eqb (piece_len (take k t)) (length (take k t)) (omega (arith, piece_cut k t (omega arith), k_long))
 
   -- nothing follows it
-  alone : length t ≤ k → pairs_from p t ≡ pair (piece p (take k t)) false none ∷ []
+  alone : length t ≤ k → pairs_from p t ≡ pair (piece p (take k t)) false None ∷ []
   unfolding pairs_from
   alone h =
       let l : word_len t ≡ k = omega (arith, word_piece t, word_end_lem t k h) in
@@ -88,7 +88,7 @@ module _ (p : ℕ) (t : List ℕ) where
   -- white space of w bytes, perhaps none, follows it up to f, and a word up to g
   module _ (h : k < length t) (w f g : ℕ) (W : w ≡ white_len (drop k t)) (F : f ≡ k + w) (G : g ≡ f + word_len (drop f t)) where
     abbrev This : Pair
-    This = pair (piece p (take k t)) (not (eqb w 0)) (some (piece (p + f) (take (word_len (drop f t)) (drop f t))))
+    This = pair (piece p (take k t)) (not (eqb w 0)) (Some (piece (p + f) (take (word_len (drop f t)) (drop f t))))
 
     -- the pairs behind it
     abbrev Rest : List Pair → Type 0
@@ -185,24 +185,24 @@ pub record Good (n p : ℕ) (q : Pair) : Type 0 where
 
 -- what a step says of the pairs of a text t that begins at p
 pub data Turn (n p : ℕ) (t : List ℕ) : Step → Type 0 where
-  turn_bad : first_bad n (pairs_from p t) ≡ some (p + fault n t) → Turn n p t bad
+  turn_bad : first_bad n (pairs_from p t) ≡ Some (p + fault n t) → Turn n p t bad
   turn_stop : (q : Pair) → pairs_from p t ≡ q ∷ [] → Good n p q → Turn n p t (stop (component_of q))
   turn_go : (q : Pair) (k : ℕ) → pairs_from p t ≡ q ∷ pairs_from (p + k) (drop k t) → Good n p q → Turn n p t (go (component_of q) k)
 
 -- the first pair's amount or unit is bad
-bad_first : (n : ℕ) (q : Pair) (d : List Pair) → is_amount n q.amount.bytes ≡ false → first_bad n (q ∷ d) ≡ some q.amount.at
+bad_first : (n : ℕ) (q : Pair) (d : List Pair) → is_amount n q.amount.bytes ≡ false → first_bad n (q ∷ d) ≡ Some q.amount.at
 unfolding first_bad
 bad_first n q d e = rw e
 
-bad_second : (n : ℕ) (a : Piece) (s : Bool) (w : Piece) (d : List Pair) → is_amount n a.bytes ≡ true → is_unit w.bytes ≡ false → first_bad n (pair a s (some w) ∷ d) ≡ some w.at
+bad_second : (n : ℕ) (a : Piece) (s : Bool) (w : Piece) (d : List Pair) → is_amount n a.bytes ≡ true → is_unit w.bytes ≡ false → first_bad n (pair a s (Some w) ∷ d) ≡ Some w.at
 unfolding first_bad bad_unit or_later
 bad_second n a s w d e f = rw (e, f)
 
-good_both : (n : ℕ) (a : Piece) (s : Bool) (w : Piece) (d : List Pair) → is_amount n a.bytes ≡ true → is_unit w.bytes ≡ true → first_bad n (pair a s (some w) ∷ d) ≡ first_bad n d
+good_both : (n : ℕ) (a : Piece) (s : Bool) (w : Piece) (d : List Pair) → is_amount n a.bytes ≡ true → is_unit w.bytes ≡ true → first_bad n (pair a s (Some w) ∷ d) ≡ first_bad n d
 unfolding first_bad bad_unit or_later
 good_both n a s w d e f = rw (e, f)
 
-good_alone : (n : ℕ) (a : Piece) (s : Bool) (d : List Pair) → is_amount n a.bytes ≡ true → first_bad n (pair a s none ∷ d) ≡ first_bad n d
+good_alone : (n : ℕ) (a : Piece) (s : Bool) (d : List Pair) → is_amount n a.bytes ≡ true → first_bad n (pair a s None ∷ d) ≡ first_bad n d
 unfolding first_bad bad_unit or_later
 good_alone n a s d e = rw e
 
@@ -282,7 +282,7 @@ module _ (n p : ℕ) (t : List ℕ) where
     turn_alone : length t ≤ piece_len t → Turn n p t (step n t)
     unfolding rest_step component_of bytes_of
     turn_alone h =
-        let q : Pair = pair (piece p (take (piece_len t) t)) false none in
+        let q : Pair = pair (piece p (take (piece_len t) t)) false None in
         let s : step n t ≡ stop (component_of q) = after_amount ∙ rw (drop_of_length-le t h) in
         rw s (turn_stop q (alone p t h) (record { begins = refl; good = λ d. good_alone n (piece p (take (piece_len t) t)) false d e }))
 
@@ -291,7 +291,7 @@ module _ (n p : ℕ) (t : List ℕ) where
       word = take (word_len (drop f t)) (drop f t)
 
       abbrev q : Pair
-      q = pair (piece p (take (piece_len t) t)) (not (eqb w 0)) (some (piece (p + f) word))
+      q = pair (piece p (take (piece_len t) t)) (not (eqb w 0)) (Some (piece (p + f) word))
 
       after_word : step n t ≡ end_step (is_unit word) (component_of q) g (drop g t)
       unfolding unit_step component_of bytes_of
@@ -351,10 +351,10 @@ pub record Next (n p : ℕ) (t : List ℕ) (c : Component) (d : List Pair) : Typ
   pub both : Good n p this
 
 module _ (n p : ℕ) (t : List ℕ) where
-  pub on_bad : step n t ≡ bad → first_bad n (pairs_from p t) ≡ some (p + fault n t)
+  pub on_bad : step n t ≡ bad → first_bad n (pairs_from p t) ≡ Some (p + fault n t)
   on_bad e = from (step n t) (turn n p t) e
     where
-      from : (s : Step) → Turn n p t s → s ≡ bad → first_bad n (pairs_from p t) ≡ some (p + fault n t)
+      from : (s : Step) → Turn n p t s → s ≡ bad → first_bad n (pairs_from p t) ≡ Some (p + fault n t)
       from s (turn_bad h) e = h
       from s (turn_stop q P G) e = let z : ◌≡◌ {A = ℕ} 0 1 = cc in absurd (omega arith)
       from s (turn_go q k P G) e = let z : ◌≡◌ {A = ℕ} 0 1 = cc in absurd (omega arith)

@@ -1,8 +1,7 @@
 -- The pieces of an interval text: document 02, No. 2, "Pieces are as the Rust's splitter cuts them", which is `split_interval_components`.
 -- Each has its place: how many bytes of the text stand before it. Every text is cut in exactly one way
 -- (`Rattle.place.proofs.Cutting.splits`), and Where.antt computes it. Assumes nothing.
-use Rattle.std.specs.Prelude.{◌≡◌, Bool, true, false, List, [], ◌∷◌, ◌++◌, ℕ, ◌+◌, length}
-use Rattle.std.proofs.Math.Option.{Option, none, some}
+use Rattle.std.specs.Prelude.{◌≡◌, Bool, true, false, List, [], ◌∷◌, ◌++◌, ℕ, ◌+◌, length, Option, None, Some}
 use Rattle.white.specs.WhiteSpace.{White}
 use Rattle.component.specs.Grammar.{Component, component}
 use Rattle.component.specs.Fault.{in_amount, all_in_amount}
@@ -40,11 +39,11 @@ pub data Pairs : List Piece → List Pair → Type 0 where
   no_word : Pairs [] []
   -- a word with some other byte is an amount and a unit, parted before the first such byte
   parted : {p b : ℕ} {a u : List ℕ} {l : List Piece} {d : List Pair} → all_in_amount a ≡ true → in_amount b ≡ false → Pairs l d
-      → Pairs (piece p (a ++ (b ∷ u)) ∷ l) (pair (piece p a) false (some (piece (p + length a) (b ∷ u))) ∷ d)
+      → Pairs (piece p (a ++ (b ∷ u)) ∷ l) (pair (piece p a) false (Some (piece (p + length a) (b ∷ u))) ∷ d)
   -- any other word is an amount, and its unit is the next word
-  two_words : {w u : Piece} {l : List Piece} {d : List Pair} → all_in_amount w.bytes ≡ true → Pairs l d → Pairs (w ∷ u ∷ l) (pair w true (some u) ∷ d)
+  two_words : {w u : Piece} {l : List Piece} {d : List Pair} → all_in_amount w.bytes ≡ true → Pairs l d → Pairs (w ∷ u ∷ l) (pair w true (Some u) ∷ d)
   -- or there is none, if it is the last
-  one_word : {w : Piece} → all_in_amount w.bytes ≡ true → Pairs (w ∷ []) (pair w false none ∷ [])
+  one_word : {w : Piece} → all_in_amount w.bytes ≡ true → Pairs (w ∷ []) (pair w false None ∷ [])
 
 -- a text that begins at the place p, and its pairs
 pub record Splits (p : ℕ) (t : List ℕ) (d : List Pair) : Type 0 where
@@ -56,8 +55,8 @@ pub record Splits (p : ℕ) (t : List ℕ) (d : List Pair) : Type 0 where
 
 -- the bytes of a piece, if there is one
 unfoldable pub bytes_of : Option Piece → Option (List ℕ)
-bytes_of none = none
-bytes_of (some w) = some w.bytes
+bytes_of None = None
+bytes_of (Some w) = Some w.bytes
 
 -- the component that a pair is, without its places
 unfoldable pub component_of : Pair → Component

@@ -1,11 +1,8 @@
 -- What a refusal with its place says: document 01's refusal, and the place where it has one. Assumes nothing.
-use Rattle.std.proofs.Math.Option.{Option, none, some}
-use Rattle.std.specs.Prelude.{ℕ}
+use Rattle.std.specs.Prelude.{Option, None, Some, ℕ}
 use Rattle.refusal.specs.Outcome.{Outcome, because}
 use Rattle.refusal.specs.declared.Refusal.{Refusal}
 use Rattle.refusal.specs.declared.Refusal.TheVariants.{NotUtf8, Interval, RepeatedUnit, Overflow, Narrowed}
-use Rattle.place.specs.declared.MaybePlace.{MaybePlace}
-use Rattle.place.specs.declared.MaybePlace.TheVariants.{Some as SomePlace, None as NoPlace}
 use Rattle.place.specs.declared.IntervalRefusal.{IntervalRefusal}
 use Rattle.place.specs.declared.IntervalRefusal.TheVariants.{NotUtf8 as NotUtf8At, Interval as IntervalAt, RepeatedUnit as RepeatedUnitAt, Overflow as OverflowAt, Narrowed as NarrowedAt}
 
@@ -19,16 +16,11 @@ refusal_of NarrowedAt = Narrowed
 
 -- its place: "8, 9 and 10 now carry a place", 1 and 11 have none
 abbrev pub place_in : IntervalRefusal → Option ℕ
-place_in NotUtf8At = none
-place_in (IntervalAt p) = some p
-place_in (RepeatedUnitAt p) = some p
-place_in (OverflowAt p) = some p
-place_in NarrowedAt = none
-
--- the place that the code holds, if it holds one
-abbrev pub maybe_place : MaybePlace → Option ℕ
-maybe_place (SomePlace p) = some p
-maybe_place NoPlace = none
+place_in NotUtf8At = None
+place_in (IntervalAt p) = Some p
+place_in (RepeatedUnitAt p) = Some p
+place_in (OverflowAt p) = Some p
+place_in NarrowedAt = None
 
 -- a refusal as an outcome, without its place
 abbrev pub because_of : {A : Type 0} → IntervalRefusal → Outcome A

@@ -1,8 +1,7 @@
 -- The place of a refused interval text, computed: its words, their pairs, and what is first in them, 8 before 9 before 10. The limit n is the most
 -- digits behind a point; u is the default unit. `Rattle.place.proofs.Placing.one_place` says that it is the place of Place.antt.
 -- Assumes nothing.
-use Rattle.std.specs.Prelude.{Bool, true, false, cond, ◌&&◌, ◌||◌, List, [], ◌∷◌, ℕ, zero, suc, ◌+◌, eqb, length, take, drop}
-use Rattle.std.proofs.Math.Option.{Option, none, some}
+use Rattle.std.specs.Prelude.{Bool, true, false, cond, ◌&&◌, ◌||◌, List, [], ◌∷◌, ℕ, zero, suc, ◌+◌, eqb, length, take, drop, Option, None, Some}
 use Rattle.utf8.specs.Utf8.{utf8}
 use Rattle.white.specs.WhiteSpace.{white_len}
 use Rattle.unit.specs.Units.{rank, is_unit, word_len}
@@ -33,13 +32,13 @@ is_whole w = eqb (piece_len w.bytes) (length w.bytes)
 
 -- a word parted behind its amount piece
 unfoldable pub parted_at : ℕ → Piece → Pair
-parted_at k w = pair (piece w.at (take k w.bytes)) false (some (piece (w.at + k) (drop k w.bytes)))
+parted_at k w = pair (piece w.at (take k w.bytes)) false (Some (piece (w.at + k) (drop k w.bytes)))
 
 -- the pairs that words make
 unfoldable pub pairs_of : List Piece → List Pair
 pairs_of [] = []
-pairs_of (w ∷ []) = cond (is_whole w) (pair w false none) (parted_at (piece_len w.bytes) w) ∷ []
-pairs_of (w ∷ u ∷ l) = cond (is_whole w) (pair w true (some u) ∷ pairs_of l) (parted_at (piece_len w.bytes) w ∷ pairs_of (u ∷ l))
+pairs_of (w ∷ []) = cond (is_whole w) (pair w false None) (parted_at (piece_len w.bytes) w) ∷ []
+pairs_of (w ∷ u ∷ l) = cond (is_whole w) (pair w true (Some u) ∷ pairs_of l) (parted_at (piece_len w.bytes) w ∷ pairs_of (u ∷ l))
 
 -- the pairs of a text that begins at the place p
 unfoldable pub pairs_from : ℕ → List ℕ → List Pair
@@ -49,18 +48,18 @@ pairs_from p t = pairs_of (words p t)
 
 -- the first place, else the second
 unfoldable pub or_later : Option ℕ → Option ℕ → Option ℕ
-or_later none q = q
-or_later (some p) q = some p
+or_later None q = q
+or_later (Some p) q = Some p
 
 -- the unit piece, where it is no unit
 unfoldable pub bad_unit : Option Piece → Option ℕ
-bad_unit none = none
-bad_unit (some w) = cond (is_unit w.bytes) none (some w.at)
+bad_unit None = None
+bad_unit (Some w) = cond (is_unit w.bytes) None (Some w.at)
 
 -- the first bad piece: 8
 unfoldable pub first_bad : ℕ → List Pair → Option ℕ
-first_bad n [] = none
-first_bad n (c ∷ d) = cond (is_amount n c.amount.bytes) (or_later (bad_unit c.unit) (first_bad n d)) (some c.amount.at)
+first_bad n [] = None
+first_bad n (c ∷ d) = cond (is_amount n c.amount.bytes) (or_later (bad_unit c.unit) (first_bad n d)) (Some c.amount.at)
 
 -- the units seen, and v
 unfoldable pub seen_with : (IntervalUnit → Bool) → IntervalUnit → IntervalUnit → Bool
@@ -72,15 +71,15 @@ none_seen v = false
 
 -- the first component whose unit was seen, or came before: 9
 unfoldable pub first_repeat : IntervalUnit → (IntervalUnit → Bool) → List Pair → Option ℕ
-first_repeat u seen [] = none
+first_repeat u seen [] = None
 first_repeat u seen (c ∷ d) =
-    cond (seen (unit_for u (component_of c))) (some c.amount.at) (first_repeat u (seen_with seen (unit_for u (component_of c))) d)
+    cond (seen (unit_for u (component_of c))) (Some c.amount.at) (first_repeat u (seen_with seen (unit_for u (component_of c))) d)
 
 -- the first component whose contribution does not fit, or with which the totals from c on do not: 10
 unfoldable pub first_unfit : ℕ → IntervalUnit → Counts → List Pair → Option ℕ
-first_unfit n u c [] = none
+first_unfit n u c [] = None
 first_unfit n u c (p ∷ d) =
-    cond (fits (gives n u (component_of p)) && fits (plus c (gives n u (component_of p)))) (first_unfit n u (plus c (gives n u (component_of p))) d) (some p.amount.at)
+    cond (fits (gives n u (component_of p)) && fits (plus c (gives n u (component_of p)))) (first_unfit n u (plus c (gives n u (component_of p))) d) (Some p.amount.at)
 
 -- the first of the three
 unfoldable pub first_of : ℕ → IntervalUnit → List Pair → Option ℕ
@@ -88,4 +87,4 @@ first_of n u d = or_later (first_bad n d) (or_later (first_repeat u none_seen d)
 
 -- the place of a text's refusal, if it has one
 unfoldable pub place : ℕ → IntervalUnit → List ℕ → Option ℕ
-place n u t = cond (utf8 t) (first_of n u (pairs_from 0 t)) none
+place n u t = cond (utf8 t) (first_of n u (pairs_from 0 t)) None

@@ -1,16 +1,15 @@
 // Why an interval text is refused, and where.
 #![tactic(auto)]
 
-ghost use Rattle.std.specs.Prelude.{◌≡◌, cond};
-ghost use Rattle.std.proofs.Math.Option.{none, some};
+ghost use Rattle.std.specs.Prelude.{◌≡◌, cond, None, Some};
 ghost use Rattle.refusal.specs.Outcome.{number_of, number_in};
 ghost use Rattle.utf8.specs.Utf8.{utf8};
-ghost use Rattle.place.specs.Read.{refusal_of, place_in, maybe_place};
+ghost use Rattle.place.specs.Read.{refusal_of, place_in};
 
 use refusal::Refusal;
 
 // A refusal of an interval text: 8, 9 and 10 have a place, counted in bytes of the text, and 1 and 11 have none.
-#[derive(Clone, Copy)]
+#[derive(Clone, Copy, Debug, PartialEq, Eq)]
 pub enum IntervalRefusal {
     // The bytes are not well-formed UTF-8.
     NotUtf8,
@@ -22,13 +21,6 @@ pub enum IntervalRefusal {
     Overflow(usize),
     // The narrowed interval form cannot hold the result.
     Narrowed,
-}
-
-// A place, or none.
-#[derive(Clone, Copy)]
-pub enum MaybePlace {
-    Some(usize),
-    None,
 }
 
 impl IntervalRefusal {
@@ -53,21 +45,21 @@ impl IntervalRefusal {
     }
 
     // Its place, where it has one.
-    pub fn place(self) -> MaybePlace
-        ensures { maybe_place result ≡ place_in self }
+    pub fn place(self) -> Option<usize>
+        ensures { result ≡ place_in self }
     {
         match self {
-            IntervalRefusal::NotUtf8 => MaybePlace::None,
-            IntervalRefusal::Interval(at) => MaybePlace::Some(at),
-            IntervalRefusal::RepeatedUnit(at) => MaybePlace::Some(at),
-            IntervalRefusal::Overflow(at) => MaybePlace::Some(at),
-            IntervalRefusal::Narrowed => MaybePlace::None,
+            IntervalRefusal::NotUtf8 => None,
+            IntervalRefusal::Interval(at) => Some(at),
+            IntervalRefusal::RepeatedUnit(at) => Some(at),
+            IntervalRefusal::Overflow(at) => Some(at),
+            IntervalRefusal::Narrowed => None,
         }
     }
 
     // A text without a division, whose first bad piece begins at a place: that its bytes are no UTF-8 comes first, and has no place.
     pub fn bad_piece(text: &[u8], place: usize) -> IntervalRefusal
-        ensures { (number_of (refusal_of result) ≡ number_in text.now 8) × (place_in result ≡ cond (utf8 text.now) (some place) none) }
+        ensures { (number_of (refusal_of result) ≡ number_in text.now 8) × (place_in result ≡ cond (utf8 text.now) (Some place) None) }
     {
         if utf8::is_utf8(text) {
             IntervalRefusal::Interval(place)

@@ -2,7 +2,7 @@
 -- another, of a text as given and trimmed, divided by a unit. Assumes nothing.
 use mathlib.Core.Path.{◌≡◌, refl, sym, ap, ◌∙◌}
 use mathlib.Core.List.{List}
-use mathlib.Core.Option.{Option, none, some}
+use Rattle.std.specs.Prelude.{Option, None, Some, Result}
 use Prim.Native.Nat.{ℕ, suc}
 use native.Mathlib.Nat.{div-one}
 use native.Mathlib.Omega.{arith}
@@ -14,8 +14,8 @@ use mir.Facts.{to_z-of_z}
 use Rattle.text.specs.Trim.{trimmed}
 use Rattle.utf8.specs.Utf8.{utf8}
 use Rattle.text.proofs.Bools.{by_test}
-use Rattle.refusal.specs.declared.Read64.{Read64}
-use Rattle.refusal.specs.Outcome.{Outcome, accepted, refused, number_in, in_utf8, outcome64}
+use Rattle.refusal.specs.declared.Refusal.{Refusal}
+use Rattle.refusal.specs.Outcome.{Outcome, accepted, refused, number_in, in_utf8, outcome}
 use Rattle.refusal.specs.Attempts.{or_else, retried, divided}
 
 pub clash {ℓ} : {X : Type ℓ} {A : Type 0} {n : ℕ} {a : A} → refused n ≡ accepted a → X
@@ -30,8 +30,8 @@ refused_in s e q = rw (e, ← q) (by_test (utf8 s) (λ t. rw t) (λ t. rw t))
 
 -- a number, or refusal 6 where there is none
 abbrev pub or_range : Option ℤ → Outcome ℤ
-or_range none = refused 6
-or_range (some z) = accepted z
+or_range None = refused 6
+or_range (Some z) = accepted z
 
 -- ---- a value, as a local reads it back
 
@@ -73,8 +73,8 @@ whole (accepted z) = ap accepted (by_one z)
 whole (refused n) = refl
 
 -- an answer in nanoseconds, divided by k, and a value n of it by the code, whose quotient is r
-abbrev pub per_unit : ℕ → Read64 → Outcome ℤ
-per_unit k r = divided k (outcome64 r)
+abbrev pub per_unit : ℕ → Result ℤ Refusal → Outcome ℤ
+per_unit k r = divided k (outcome r)
 
 pub in_unit_lem : (k : ℕ) {w : Width} {n r : ℤ} → SFits w n → SFits w r → r ≡ quot_z (to_z w (of_z w n)) (pos k) → accepted (to_z w (of_z w r)) ≡ divided k (accepted n)
 in_unit_lem k f g e = back g (ap accepted (rw (to_z-of_z f) at e))

@@ -1,11 +1,7 @@
 -- The answer of a reader, in which every definition of the project is given: a value, or one number of document 01's list,
 -- "Refusals, in checking order". Assumes nothing.
-use Rattle.std.specs.Prelude.{cond, List, ℕ, ℤ}
+use Rattle.std.specs.Prelude.{cond, List, ℕ, Result, Ok, Err}
 use Rattle.utf8.specs.Utf8.{utf8}
-use Rattle.refusal.specs.declared.Read32.{Read32}
-use Rattle.refusal.specs.declared.Read32.TheVariants.{Value as Value32, Refused as Refused32}
-use Rattle.refusal.specs.declared.Read64.{Read64}
-use Rattle.refusal.specs.declared.Read64.TheVariants.{Value as Value64, Refused as Refused64}
 use Rattle.refusal.specs.declared.Refusal.{Refusal}
 use Rattle.refusal.specs.declared.Refusal.TheVariants.{NotUtf8, Date, Separator, Time, Tail, Range, TimeOfDay, Interval, RepeatedUnit, Overflow, Narrowed, SiteStamp, Column}
 
@@ -46,11 +42,7 @@ abbrev pub and_then : {A B : Type 0} → Outcome A → (A → Outcome B) → Out
 and_then (accepted v) next = next v
 and_then (refused n) next = refused n
 
--- what the readers' answers say
-abbrev pub outcome64 : Read64 → Outcome ℤ
-outcome64 (Value64 z) = accepted z
-outcome64 (Refused64 why) = because why
-
-abbrev pub outcome32 : Read32 → Outcome ℤ
-outcome32 (Value32 z) = accepted z
-outcome32 (Refused32 why) = because why
+-- what a reader's answer says
+abbrev pub outcome : {A : Type 0} → Result A Refusal → Outcome A
+outcome (Ok v) = accepted v
+outcome (Err why) = because why

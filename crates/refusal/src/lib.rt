@@ -4,48 +4,35 @@
 ghost use Rattle.std.specs.Prelude.{◌≡◌};
 ghost use Rattle.refusal.specs.Outcome.{number_of, number_in};
 
-#[derive(Clone, Copy)]
+// Each with its number in document 01's list and document 02.
+#[derive(Clone, Copy, Debug, PartialEq, Eq)]
 pub enum Refusal {
     // The bytes are not well-formed UTF-8.
-    NotUtf8,
+    NotUtf8 = 1,
     // No date: no shape of one, no day of the calendar, or a stamp of fewer than 10 bytes.
-    Date,
+    Date = 2,
     // Byte 10 of a longer stamp is not T, t or a space.
-    Separator,
+    Separator = 3,
     // No time part of a stamp, or a field of it is out of range.
-    Time,
+    Time = 4,
     // Bytes remain after the time that are not a single final z or Z.
-    Tail,
+    Tail = 5,
     // The nanoseconds do not fit 64 signed bits, or the day number does not fit 32.
-    Range,
+    Range = 6,
     // A time-of-day text is neither a time nor, for a time column, an integer of its width.
-    TimeOfDay,
+    TimeOfDay = 7,
     // An interval text has no division.
-    Interval,
+    Interval = 8,
     // A unit comes twice.
-    RepeatedUnit,
+    RepeatedUnit = 9,
     // A contribution or a running total does not fit.
-    Overflow,
+    Overflow = 10,
     // The narrowed interval form cannot hold the result.
-    Narrowed,
+    Narrowed = 11,
     // The plain stamp reader accepts the text, but it is no site stamp.
-    SiteStamp,
+    SiteStamp = 12,
     // The ends of a column's texts fall or pass the bytes, or there are fewer cells than ends.
-    Column,
-}
-
-// A reader's answer of 64 bits.
-#[derive(Clone, Copy)]
-pub enum Read64 {
-    Value(i64),
-    Refused(Refusal),
-}
-
-// A reader's answer of 32 bits.
-#[derive(Clone, Copy)]
-pub enum Read32 {
-    Value(i32),
-    Refused(Refusal),
+    Column = 13,
 }
 
 impl Refusal {
@@ -53,21 +40,7 @@ impl Refusal {
     pub fn number(self) -> u8
         ensures { result ≡ number_of self }
     {
-        match self {
-            Refusal::NotUtf8 => 1,
-            Refusal::Date => 2,
-            Refusal::Separator => 3,
-            Refusal::Time => 4,
-            Refusal::Tail => 5,
-            Refusal::Range => 6,
-            Refusal::TimeOfDay => 7,
-            Refusal::Interval => 8,
-            Refusal::RepeatedUnit => 9,
-            Refusal::Overflow => 10,
-            Refusal::Narrowed => 11,
-            Refusal::SiteStamp => 12,
-            Refusal::Column => 13,
-        }
+        self as u8
     }
 
     // A refusal of a text: that its bytes are no UTF-8 comes first.

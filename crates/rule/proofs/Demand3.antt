@@ -3,7 +3,8 @@ use mathlib.Core.Path.{◌≡◌, refl, sym, ap, ◌∙◌}
 use mathlib.Core.Bool.{Bool, true, false, cond, ◌&&◌, ◌||◌, false≢true}
 use mathlib.Core.Logic.{⊎_elim, ◌↔◌}
 use mathlib.Core.List.{List, [], ◌∷◌, ◌++◌}
-use mathlib.Core.Option.{Option, none, some, none-ne-some}
+use Rattle.std.specs.Prelude.{Option, None, Some}
+use Rattle.std.proofs.lemmas.Option.{none-some}
 use Prim.Native.Nat.{ℕ, suc, ◌*◌, ◌/◌, ◌%◌}
 use native.Mathlib.Omega.{arith}
 use lib.Dec.{eqb}
@@ -37,9 +38,9 @@ not-true : (b : Bool) → (b ≡ true → ⊥) → b ≡ false
 not-true true f = absurd (f refl)
 not-true false f = refl
 
-none_left : {A : Type 0} (o : Option A) → ((a : A) → o ≡ some a → ⊥) → o ≡ none
-none_left none f = refl
-none_left (some a) f = absurd (f a refl)
+none_left : {A : Type 0} (o : Option A) → ((a : A) → o ≡ Some a → ⊥) → o ≡ None
+none_left None f = refl
+none_left (Some a) f = absurd (f a refl)
 
 or_true : (b : Bool) → b || true ≡ true
 or_true true = refl
@@ -123,15 +124,15 @@ module _ (n : ℕ) (u : IntervalUnit) where
   gives_value p A = rw (amount_value A)
 
   -- where a contribution k and the totals with it fit, they are added
-  added : (c k : Counts) (d : List Component) → fits k ≡ true → fits (plus c k) ≡ true → cond (fits k && fits (plus c k)) (totals n u (plus c k) d) none ≡ totals n u (plus c k) d
+  added : (c k : Counts) (d : List Component) → fits k ≡ true → fits (plus c k) ≡ true → cond (fits k && fits (plus c k)) (totals n u (plus c k) d) None ≡ totals n u (plus c k) d
   added c k d f g = rw (f, g)
 
-  pub runs_totals : {c e : Counts} {d : List Component} → Runs n u c d e → totals n u c d ≡ some e
+  pub runs_totals : {c e : Counts} {d : List Component} → Runs n u c d e → totals n u c d ≡ Some e
   unfolding totals
   runs_totals done = refl
   runs_totals (add {c} {p = p} {d} {v} A f g r) = rw (gives_value p A) (added c (contribution n (unit_for u p) v) d f g ∙ runs_totals r)
 
-  pub totals_runs : (c e : Counts) {d : List Component} → Amounts n d → totals n u c d ≡ some e → Runs n u c d e
+  pub totals_runs : (c e : Counts) {d : List Component} → Amounts n d → totals n u c d ≡ Some e → Runs n u c d e
   unfolding totals
   totals_runs c e no_more h = let q : c ≡ e = cc in rw q done
   totals_runs c e (one_more {p} {d} {v} A M) h =
@@ -139,18 +140,18 @@ module _ (n : ℕ) (u : IntervalUnit) where
       by_test (fits k)
       (λ f. by_test (fits (plus c k))
       (λ g. add A f g (totals_runs (plus c k) e M (simp (gives_value p A, f, g) at h)))
-      (λ g. absurd (none-ne-some e (simp (gives_value p A, f, g) at h))))
-      (λ f. absurd (none-ne-some e (simp (gives_value p A, f) at h)))
+      (λ g. absurd (none-some e (simp (gives_value p A, f, g) at h))))
+      (λ f. absurd (none-some e (simp (gives_value p A, f) at h)))
 
 -- ---- the answer
 
 module _ (n : ℕ) (u : IntervalUnit) (t : List ℕ) where
   -- by the division: a text that has one need not be tested for UTF-8
-  pub divided_answer : {d : List Component} → divide n t ≡ some d → month_day_nano n u t ≡ on_division n u (some d)
+  pub divided_answer : {d : List Component} → divide n t ≡ Some d → month_day_nano n u t ≡ on_division n u (Some d)
   unfolding month_day_nano
   divided_answer {d} e = rw (divided_utf8 n t d e, e)
 
-  pub undivided_answer : divide n t ≡ none → month_day_nano n u t ≡ cond (utf8 t) (refused 8) (refused 1)
+  pub undivided_answer : divide n t ≡ None → month_day_nano n u t ≡ cond (utf8 t) (refused 8) (refused 1)
   unfolding month_day_nano on_division
   undivided_answer e = rw e
 
@@ -160,8 +161,8 @@ module _ (n : ℕ) (u : IntervalUnit) (t : List ℕ) where
   but_eight {r} e f = from (divide n t) refl e
     where
       from : (o : Option (List Component)) → divide n t ≡ o → on_division n u o ≡ r → month_day_nano n u t ≡ r
-      from none p q = absurd (f (sym q))
-      from (some d) p q = divided_answer p ∙ q
+      from None p q = absurd (f (sym q))
+      from (Some d) p q = divided_answer p ∙ q
 
   pub eight : on_division n u (divide n t) ≡ refused 8 → month_day_nano n u t ≡ cond (utf8 t) (refused 8) (refused 1)
   unfolding month_day_nano
@@ -178,8 +179,8 @@ module _ (n : ℕ) (u : IntervalUnit) (t : List ℕ) where
 
   totals_mean : (d : List Component) → Divides n t d → twice u d ≡ false → (o : Option Counts) → totals n u zeros d ≡ o → Means n u t (on_totals o)
   unfolding on_totals
-  totals_mean d D e none h = unfit D (not_twice u e) (λ c R. none-ne-some c (sym h ∙ runs_totals n u R))
-  totals_mean d D e (some c) h = totalled D (not_twice u e) (totals_runs n u zeros c (amounts D) h)
+  totals_mean d D e None h = unfit D (not_twice u e) (λ c R. none-some c (sym h ∙ runs_totals n u R))
+  totals_mean d D e (Some c) h = totalled D (not_twice u e) (totals_runs n u zeros c (amounts D) h)
 
   units_mean : (d : List Component) → Divides n t d → (b : Bool) → twice u d ≡ b → Means n u t (cond b (refused 9) (on_totals (totals n u zeros d)))
   units_mean d D true e = repeated D (twice_repeats u d e)
@@ -187,8 +188,8 @@ module _ (n : ℕ) (u : IntervalUnit) (t : List ℕ) where
 
   division_means : utf8 t ≡ true → (o : Option (List Component)) → divide n t ≡ o → Means n u t (on_division n u o)
   unfolding on_division
-  division_means w none h = undivided ((Utf8Agrees.agrees t).1 w) (λ d D. none-ne-some d (sym h ∙ (agrees n t d).0 D))
-  division_means w (some d) h = units_mean d ((agrees n t d).1 h) (twice u d) refl
+  division_means w None h = undivided ((Utf8Agrees.agrees t).1 w) (λ d D. none-some d (sym h ∙ (agrees n t d).0 D))
+  division_means w (Some d) h = units_mean d ((agrees n t d).1 h) (twice u d) refl
 
   -- a text has an answer
   pub answered : Means n u t (month_day_nano n u t)
@@ -204,7 +205,7 @@ module _ (n : ℕ) (u : IntervalUnit) (t : List ℕ) where
 
 -- ---- narrowed forms: hold computes what Holds says
 
-module _ {A : Type 0} (Holds : Counts → A → Type 0) (hold : Counts → Option A) (holds : (c : Counts) (v : A) → Holds c v ↔ (hold c ≡ some v)) (n : ℕ) (u : IntervalUnit) (t : List ℕ) where
+module _ {A : Type 0} (Holds : Counts → A → Type 0) (hold : Counts → Option A) (holds : (c : Counts) (v : A) → Holds c v ↔ (hold c ≡ Some v)) (n : ℕ) (u : IntervalUnit) (t : List ℕ) where
   narrowed_computed : {r : Outcome A} → Narrows Holds n u t r → narrowed hold (month_day_nano n u t) ≡ r
   unfolding narrowed or_narrowed
   narrowed_computed (held {c} {v} M H) = rw (computed n u t M, (holds c v).0 H)
@@ -213,8 +214,8 @@ module _ {A : Type 0} (Holds : Counts → A → Type 0) (hold : Counts → Optio
 
   held_means : {c : Counts} → Means n u t (accepted c) → (o : Option A) → hold c ≡ o → Narrows Holds n u t (or_narrowed o)
   unfolding or_narrowed
-  held_means {c} M none e = unheld M (λ v H. none-ne-some v (sym e ∙ (holds c v).0 H))
-  held_means {c} M (some v) e = held M ((holds c v).1 e)
+  held_means {c} M None e = unheld M (λ v H. none-some v (sym e ∙ (holds c v).0 H))
+  held_means {c} M (Some v) e = held M ((holds c v).1 e)
 
   outcome_means : (o : Outcome Counts) → Means n u t o → Narrows Holds n u t (narrowed hold o)
   unfolding narrowed
@@ -231,19 +232,19 @@ module _ {A : Type 0} (Holds : Counts → A → Type 0) (hold : Counts → Optio
 
 -- ---- year-month
 
-in_months : (c : Counts) (v : ℤ) → to_year_months c ≡ some v → YearMonths c v
+in_months : (c : Counts) (v : ℤ) → to_year_months c ≡ Some v → YearMonths c v
 unfolding to_year_months
 in_months c v e =
     by_test (eqb (nat_abs c.days) 0)
     (λ p. by_test (eqb (nat_abs c.nanos) 0)
     (λ q. from c.months c.days c.nanos (abs_zero c.days (eqb-true (nat_abs c.days) 0 p)) (abs_zero c.nanos (eqb-true (nat_abs c.nanos) 0 q)) (rw (p, q) at e))
-    (λ q. absurd (none-ne-some v (rw (p, q) at e))))
-    (λ p. absurd (none-ne-some v (rw p at e)))
+    (λ q. absurd (none-some v (rw (p, q) at e))))
+    (λ p. absurd (none-some v (rw p at e)))
   where
-    from : (m d k : ℤ) → d ≡ pos 0 → k ≡ pos 0 → some m ≡ some v → YearMonths (counts m d k) v
+    from : (m d k : ℤ) → d ≡ pos 0 → k ≡ pos 0 → Some m ≡ Some v → YearMonths (counts m d k) v
     from m d k p q r = let w : m ≡ v = cc in rw (p, q, w) months_alone
 
-is_months : {c : Counts} {v : ℤ} → YearMonths c v → to_year_months c ≡ some v
+is_months : {c : Counts} {v : ℤ} → YearMonths c v → to_year_months c ≡ Some v
 unfolding to_year_months
 is_months months_alone = refl
 
@@ -270,11 +271,11 @@ multiple (negsuc a) e =
     eq_of (negsuc a) (q *ℤ pos 1_000_000) (omega (arith, mul_p q 1_000_000, mul_n q 1_000_000, P-neg (pos (suc a / 1_000_000)), N-neg (pos (suc a / 1_000_000))))
 
 module _ (m d k : ℤ) where
-  all_fit : in_signed 31 (m *ℤ pos 30) ≡ true → in_signed 31 (m *ℤ pos 30 +ℤ d) ≡ true → in_signed 31 k ≡ true → to_day_time (counts m d (k *ℤ pos 1_000_000)) ≡ some (day_time_of (m *ℤ pos 30 +ℤ d) k)
+  all_fit : in_signed 31 (m *ℤ pos 30) ≡ true → in_signed 31 (m *ℤ pos 30 +ℤ d) ≡ true → in_signed 31 k ≡ true → to_day_time (counts m d (k *ℤ pos 1_000_000)) ≡ Some (day_time_of (m *ℤ pos 30 +ℤ d) k)
   unfolding to_day_time day_time_fits
   all_fit p q r = rw (p, q, eq-eqb (nat_abs (k *ℤ pos 1_000_000) % 1_000_000) 0 (no_rest k), quot_back k, r)
 
-is_day_time : {c : Counts} {v : DayTime} → DayTimes c v → to_day_time c ≡ some v
+is_day_time : {c : Counts} {v : DayTime} → DayTimes c v → to_day_time c ≡ Some v
 is_day_time (in_days {m} {d} {k} p q r) = all_fit m d k p q r
 
 in_day_time : (m d k : ℤ) (v : DayTime) → day_time_fits (counts m d k) ≡ true → day_time_of (m *ℤ pos 30 +ℤ d) (quot_z k (pos 1_000_000)) ≡ v → DayTimes (counts m d k) v
@@ -292,12 +293,12 @@ in_day_time m d k v f e =
     from : (j k : ℤ) → k ≡ j *ℤ pos 1_000_000 → in_signed 31 (m *ℤ pos 30) ≡ true → in_signed 31 (m *ℤ pos 30 +ℤ d) ≡ true → in_signed 31 j ≡ true → DayTimes (counts m d k) (day_time_of (m *ℤ pos 30 +ℤ d) j)
     from j k z p q r = rw z (in_days p q r)
 
-to_day_time_lem : (c : Counts) (v : DayTime) → to_day_time c ≡ some v → DayTimes c v
+to_day_time_lem : (c : Counts) (v : DayTime) → to_day_time c ≡ Some v → DayTimes c v
 unfolding to_day_time
 to_day_time_lem c v e =
     by_test (day_time_fits c)
-    (λ f. let g : some (day_time_of (c.months *ℤ pos 30 +ℤ c.days) (quot_z c.nanos (pos 1_000_000))) ≡ some v = rw f at e in in_day_time c.months c.days c.nanos v f (cc))
-    (λ f. absurd (none-ne-some v (rw f at e)))
+    (λ f. let g : Some (day_time_of (c.months *ℤ pos 30 +ℤ c.days) (quot_z c.nanos (pos 1_000_000))) ≡ Some v = rw f at e in in_day_time c.months c.days c.nanos v f (cc))
+    (λ f. absurd (none-some v (rw f at e)))
 
 pub day_time_lem : (n : ℕ) (u : IntervalUnit) (t : List ℕ) (r : Outcome DayTime) → Narrows DayTimes n u t r ↔ (narrowed to_day_time (month_day_nano n u t) ≡ r)
 day_time_lem = narrows DayTimes to_day_time (λ c v. (is_day_time, to_day_time_lem c v))

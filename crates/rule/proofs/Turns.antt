@@ -3,7 +3,7 @@
 use mathlib.Core.Path.{◌≡◌, refl}
 use mathlib.Core.Bool.{Bool, true, false, cond, ◌&&◌, ◌||◌}
 use mathlib.Core.List.{List, [], ◌∷◌}
-use mathlib.Core.Option.{Option, none, some}
+use Rattle.std.specs.Prelude.{Option, None, Some}
 use Prim.Native.Nat.{ℕ}
 use lib.Dec.{eqb}
 use Rattle.text.proofs.Bools.{by_test}
@@ -86,44 +86,44 @@ module _ (u : IntervalUnit) where
 module _ (n : ℕ) (u : IntervalUnit) where
   -- the totals with one more component, if it and they fit
   unfoldable pub add_to : Option Counts → Component → Option Counts
-  add_to none p = none
-  add_to (some c) p = cond (fits (gives n u p) && fits (plus c (gives n u p))) (some (plus c (gives n u p))) none
+  add_to None p = None
+  add_to (Some c) p = cond (fits (gives n u p) && fits (plus c (gives n u p))) (Some (plus c (gives n u p))) None
 
   -- the last totals from those so far
   unfoldable pub onward : Option Counts → List Component → Option Counts
-  onward none d = none
-  onward (some c) d = totals n u c d
+  onward None d = None
+  onward (Some c) d = totals n u c d
 
   -- the answer, where the division's rest is o
   unfoldable pub settle : (IntervalUnit → Bool) → Bool → Option Counts → Option (List Component) → Outcome Counts
-  settle seen repeated total none = refused 8
-  settle seen repeated total (some d) = cond (repeated || again u seen d) (refused 9) (on_totals (onward total d))
+  settle seen repeated total None = refused 8
+  settle seen repeated total (Some d) = cond (repeated || again u seen d) (refused 9) (on_totals (onward total d))
 
   onward_more : (o : Option Counts) (p : Component) (d : List Component) → onward o (p ∷ d) ≡ onward (add_to o p) d
   unfolding onward add_to totals
-  onward_more none p d = refl
-  onward_more (some c) p d =
+  onward_more None p d = refl
+  onward_more (Some c) p d =
       by_test (fits (gives n u p) && fits (plus c (gives n u p))) (λ e. rw e) (λ e. rw e)
 
   onward_end : (o : Option Counts) → onward o [] ≡ o
   unfolding onward totals
-  onward_end none = refl
-  onward_end (some c) = refl
+  onward_end None = refl
+  onward_end (Some c) = refl
 
   -- the loop's start
-  pub settle_start : (o : Option (List Component)) → on_division n u o ≡ settle unseen false (some zeros) o
+  pub settle_start : (o : Option (List Component)) → on_division n u o ≡ settle unseen false (Some zeros) o
   unfolding on_division settle onward
-  settle_start none = refl
-  settle_start (some d) = rw (again_twice u d)
+  settle_start None = refl
+  settle_start (Some d) = rw (again_twice u d)
 
   module _ (seen : IntervalUnit → Bool) (repeated : Bool) (total : Option Counts) where
     -- no component there
-    pub settle_bad : settle seen repeated total none ≡ refused 8
+    pub settle_bad : settle seen repeated total None ≡ refused 8
     unfolding settle
     settle_bad = refl
 
     -- a last one
-    pub settle_last : (p : Component) → settle seen repeated total (some (p ∷ [])) ≡ cond (repeated || seen (unit_for u p)) (refused 9) (on_totals (add_to total p))
+    pub settle_last : (p : Component) → settle seen repeated total (Some (p ∷ [])) ≡ cond (repeated || seen (unit_for u p)) (refused 9) (on_totals (add_to total p))
     unfolding settle again
     settle_last p = rw (onward_more total p [], onward_end (add_to total p), or_false (seen (unit_for u p)))
       where
@@ -134,11 +134,11 @@ module _ (n : ℕ) (u : IntervalUnit) where
     -- one more
     pub settle_more : (p : Component) (o : Option (List Component)) → settle seen repeated total (before p o) ≡ settle (mark seen (unit_for u p)) (repeated || seen (unit_for u p)) (add_to total p) o
     unfolding settle again before
-    settle_more p none = refl
-    settle_more p (some d) = rw (onward_more total p d, assoc repeated (seen (unit_for u p)) (again u (mark seen (unit_for u p)) d))
+    settle_more p None = refl
+    settle_more p (Some d) = rw (onward_more total p d, assoc repeated (seen (unit_for u p)) (again u (mark seen (unit_for u p)) d))
 
   -- marks may be kept in any form
   pub settle_same : (f g : IntervalUnit → Bool) → ((v : IntervalUnit) → f v ≡ g v) → (repeated : Bool) (total : Option Counts) (o : Option (List Component)) → settle f repeated total o ≡ settle g repeated total o
   unfolding settle
-  settle_same f g h repeated total none = refl
-  settle_same f g h repeated total (some d) = rw (same_seen u f g h d)
+  settle_same f g h repeated total None = refl
+  settle_same f g h repeated total (Some d) = rw (same_seen u f g h d)

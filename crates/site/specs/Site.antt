@@ -1,8 +1,7 @@
 -- The site stamp (document 01, added to what the Rust reads): yyyy-mm-ddThh:mm:ssZ with capital letters, and perhaps a point and 1 to 9
 -- digits behind the seconds; second 60 only as 23:59:60. Its value is the plain reader's; 12 is refused after the plain reader's own
 -- refusals. `Rattle.site.proofs.SiteAgrees` and `Refusals` join the relations to the computation. Assumes nothing.
-use Rattle.std.specs.Prelude.{◌≡◌, Bool, true, cond, not, ◌&&◌, ◌||◌, List, [], ◌∷◌, ◌++◌, ℕ, ◌-◌, ◌≤◌, eqb, leb, length, get_or, drop, ℤ, pos}
-use Rattle.std.proofs.Math.Option.{some}
+use Rattle.std.specs.Prelude.{◌≡◌, Bool, true, cond, not, ◌&&◌, ◌||◌, List, [], ◌∷◌, ◌++◌, ℕ, ◌-◌, ◌≤◌, eqb, leb, length, get_or, drop, ℤ, pos, Some}
 use Rattle.calendar.specs.Calendar.{civil}
 use Rattle.number.specs.Widths.{in_signed}
 use Rattle.refusal.specs.Outcome.{Outcome, accepted, refused, and_then}
@@ -22,7 +21,7 @@ pub data SiteStamp : List ℕ → Ymd → Clock → Type 0 where
 
 -- a text and the nanoseconds that it is read as
 pub data SiteReads : List ℕ → ℤ → Type 0 where
-  site_reads : {t : List ℕ} {d : Ymd} {c : Clock} (z : ℤ) → SiteStamp t d c → civil (pos d.year) d.month d.day ≡ some z
+  site_reads : {t : List ℕ} {d : Ymd} {c : Clock} (z : ℤ) → SiteStamp t d c → civil (pos d.year) d.month d.day ≡ Some z
       → in_range c.hour c.minute c.second ≡ true → in_signed 63 (instant (moment z (since_midnight c))) ≡ true
       → SiteReads t (instant (moment z (since_midnight c)))
 

@@ -4,7 +4,7 @@ use mathlib.Core.Path.{◌≡◌, refl, sym, ap, ◌∙◌, subst}
 use mathlib.Core.Bool.{true, ◌&&◌, ◌||◌, false≢true}
 use mathlib.Core.Logic.{⊎_elim, ◌↔◌}
 use mathlib.Core.List.{List, [], ◌∷◌, ◌++◌, append-nil}
-use mathlib.Core.Option.{Option, none, some}
+use Rattle.std.specs.Prelude.{Option, None, Some}
 use Prim.Native.Nat.{ℕ, ◌+◌, ◌*◌, ◌<◌}
 use native.Mathlib.Omega.{arith}
 use lib.Dec.{eqb, lit<}
@@ -79,7 +79,7 @@ is_separator_lem capital = refl
 is_separator_lem small = refl
 is_separator_lem space = refl
 
-pub day_read : {t : List ℕ} {d : Ymd} → FullDate t d → (r : List ℕ) (z : ℤ) → civil (pos d.year) d.month d.day ≡ some z → day_of (t ++ r) ≡ some z
+pub day_read : {t : List ℕ} {d : Ymd} → FullDate t d → (r : List ℕ) (z : ℤ) → civil (pos d.year) d.month d.day ≡ Some z → day_of (t ++ r) ≡ Some z
 unfolding day_of
 day_read f r z e = let x = date_read f r in rw (x.shape, x.year, x.month, x.day) e
 
@@ -101,9 +101,9 @@ pub record DateIs (t : List ℕ) (z : ℤ) : Type 0 where
   pub full : FullDate bytes date
   pub text : t ≡ bytes ++ drop 10 t
   pub size : length bytes ≡ 10
-  pub named : civil (pos date.year) date.month date.day ≡ some z
+  pub named : civil (pos date.year) date.month date.day ≡ Some z
 
-pub date_sound : (t : List ℕ) (z : ℤ) → is_date t ≡ true → civil (pos (two_at t 0 * 100 + two_at t 2)) (two_at t 5) (two_at t 8) ≡ some z → DateIs t z
+pub date_sound : (t : List ℕ) (z : ℤ) → is_date t ≡ true → civil (pos (two_at t 0 * 100 + two_at t 2)) (two_at t 5) (two_at t 8) ≡ Some z → DateIs t z
 date_sound t z e n =
     let p = both (two_digits t 0) (two_digits t 2 && (eqb (get_or t 4 0) 0x2D && (two_digits t 5 && (eqb (get_or t 7 0) 0x2D && two_digits t 8)))) e in
     let q = both (two_digits t 2) (eqb (get_or t 4 0) 0x2D && (two_digits t 5 && (eqb (get_or t 7 0) 0x2D && two_digits t 8))) p.1 in
@@ -145,8 +145,8 @@ module _ (t : List ℕ) (z : ℤ) (x : DateIs t z) (m : Moment) where
       rw (← q, w) (names z (date_alone x.full) x.named refl)
 
   at_time : (length t ≡ 10 → ⊥) → is_separator (get_or t 10 0) ≡ true → (o : Option Timed) → time_of (drop 11 t) ≡ o → on_time z o ≡ accepted m → Names t m
-  at_time h s none p e = clash e
-  at_time h s (some y) p e =
+  at_time h s None p e = clash e
+  at_time h s (Some y) p e =
       by_test (is_ending y.tail)
       (λ n.
       let x' = time_sound (drop 11 t) y p in
@@ -176,9 +176,9 @@ sound t m e =
     (λ p. by (civil (pos (two_at t 0 * 100 + two_at t 2)) (two_at t 5) (two_at t 8)) (date_sound t) p (rw p at e))
     (λ p. clash (rw p at e))
   where
-    by : (o : Option ℤ) → ((z : ℤ) → is_date t ≡ true → o ≡ some z → DateIs t z) → is_date t ≡ true → on_date t o ≡ accepted m → Names t m
-    by none f p e = clash e
-    by (some z) f p e = after t z (f z p refl) m e
+    by : (o : Option ℤ) → ((z : ℤ) → is_date t ≡ true → o ≡ Some z → DateIs t z) → is_date t ≡ true → on_date t o ≡ accepted m → Names t m
+    by None f p e = clash e
+    by (Some z) f p e = after t z (f z p refl) m e
 
 -- ---- stamps are ASCII
 
@@ -244,6 +244,6 @@ is_stamp : {t : List ℕ} {d : Ymd} {c : Clock} → Rfc3339 t d c → Stamp t d 
 is_stamp (utc a h m s x f t z p q r u v w y) =
     date_time a _ (z ∷ []) t p (⊎_elim (λ e. rw e capital) (λ e. rw e small) q) (colons h m s x f r u v w) (⊎_elim (λ e. rw e capital_z) (λ e. rw e small_z) y)
 
-pub rfc3339 : {t : List ℕ} {d : Ymd} {c : Clock} (z : ℤ) → Rfc3339 t d c → civil (pos d.year) d.month d.day ≡ some z → Ok c → in_signed 63 (instant (moment z (since_midnight c))) ≡ true → stamp_nanos t ≡ accepted (instant (moment z (since_midnight c)))
+pub rfc3339 : {t : List ℕ} {d : Ymd} {c : Clock} (z : ℤ) → Rfc3339 t d c → civil (pos d.year) d.month d.day ≡ Some z → Ok c → in_signed 63 (instant (moment z (since_midnight c))) ≡ true → stamp_nanos t ≡ accepted (instant (moment z (since_midnight c)))
 rfc3339 {t} {d} {c} z r e ok fits =
     (read_as t (instant (moment z (since_midnight c)))).0 (reads (moment z (since_midnight c)) (names z (is_stamp r) e ok) fits)

@@ -3,7 +3,7 @@ use mathlib.Core.Path.{◌≡◌, refl, sym, ap, subst}
 use mathlib.Core.Bool.{true, false, not}
 use mathlib.Core.Logic.{inr}
 use mathlib.Core.List.{List, [], ◌∷◌, ◌++◌, append_assoc, nil≢cons}
-use mathlib.Core.Option.{Option, some}
+use Rattle.std.specs.Prelude.{Option, Some}
 use Prim.Native.Nat.{ℕ, suc, ◌+◌, ◌*◌}
 use native.Mathlib.Omega.{arith}
 use lib.Dec.{eqb}
@@ -29,7 +29,7 @@ abbrev pub Ok : Clock → Type 0
 Ok c = in_range c.hour c.minute c.second ≡ true
 
 abbrev time_is : Clock → List ℕ → Option Timed
-time_is c r = some (record { nanos = since_midnight c; tail = r })
+time_is c r = Some (record { nanos = since_midnight c; tail = r })
 
 -- ---- what follows, as the relation has it and as the computation tests it
 
@@ -132,10 +132,10 @@ pub record TimeIs (t : List ℕ) (x : Timed) : Type 0 where
   pub nanos : x.nanos ≡ since_midnight fields
 
 -- the fields are in range where there is a time with them
-in_range_lem : (h m s n : ℕ) (e : List ℕ) (x : Timed) → timed_at h m s n e ≡ some x → (in_range h m s ≡ true) × (x ≡ record { nanos = ((h * 60 + m) * 60 + s) * 1000000000 + n; tail = e })
+in_range_lem : (h m s n : ℕ) (e : List ℕ) (x : Timed) → timed_at h m s n e ≡ Some x → (in_range h m s ≡ true) × (x ≡ record { nanos = ((h * 60 + m) * 60 + s) * 1000000000 + n; tail = e })
 in_range_lem h m s n e x p =
     by_test (in_range h m s)
-    (λ ok. let q : some (record { nanos = ((h * 60 + m) * 60 + s) * 1000000000 + n; tail = e }) ≡ some x = rw ok at p in (ok, cc))
+    (λ ok. let q : Some (record { nanos = ((h * 60 + m) * 60 + s) * 1000000000 + n; tail = e }) ≡ Some x = rw ok at p in (ok, cc))
     (λ no. none_some (rw no at p))
 
 module _ (a b c d g i : ℕ) (fa : is_digit a ≡ true) (fb : is_digit b ≡ true) (fc : is_digit c ≡ true) (fd : is_digit d ≡ true) (fg : is_digit g ≡ true) (fi : is_digit i ≡ true) where
@@ -148,7 +148,7 @@ module _ (a b c d g i : ℕ) (fa : is_digit a ≡ true) (fb : is_digit b ≡ tru
   abbrev S : ℕ
   S = two_at (g ∷ i ∷ []) 0
 
-  whole_sound : (r : List ℕ) (x : Timed) → ((q : List ℕ) → r ≡ 0x2E ∷ q → ⊥) → timed H M S [] r ≡ some x → TimeIs (a ∷ b ∷ 0x3A ∷ c ∷ d ∷ 0x3A ∷ g ∷ i ∷ r) x
+  whole_sound : (r : List ℕ) (x : Timed) → ((q : List ℕ) → r ≡ 0x2E ∷ q → ⊥) → timed H M S [] r ≡ Some x → TimeIs (a ∷ b ∷ 0x3A ∷ c ∷ d ∷ 0x3A ∷ g ∷ i ∷ r) x
   whole_sound r x n e =
       let y = in_range_lem H M S (nanos_of []) r x e in
       rw y.1 (record {
@@ -158,7 +158,7 @@ module _ (a b c d g i : ℕ) (fa : is_digit a ≡ true) (fb : is_digit b ≡ tru
       })
 
   -- behind a point
-  parted_sound : (u : List ℕ) (x : Timed) → with_fraction H M S (run u) u ≡ some x → TimeIs (a ∷ b ∷ 0x3A ∷ c ∷ d ∷ 0x3A ∷ g ∷ i ∷ 0x2E ∷ u) x
+  parted_sound : (u : List ℕ) (x : Timed) → with_fraction H M S (run u) u ≡ Some x → TimeIs (a ∷ b ∷ 0x3A ∷ c ∷ d ∷ 0x3A ∷ g ∷ i ∷ 0x2E ∷ u) x
   unfolding run
   parted_sound [] x e = none_some e
   parted_sound (k ∷ u) x e =
@@ -176,14 +176,14 @@ module _ (a b c d g i : ℕ) (fa : is_digit a ≡ true) (fb : is_digit b ≡ tru
       }))
       (λ p. none_some (rw p at e))
 
-  colons_sound : (r : List ℕ) (x : Timed) → after_seconds H M S r ≡ some x → TimeIs (a ∷ b ∷ 0x3A ∷ c ∷ d ∷ 0x3A ∷ g ∷ i ∷ r) x
+  colons_sound : (r : List ℕ) (x : Timed) → after_seconds H M S r ≡ Some x → TimeIs (a ∷ b ∷ 0x3A ∷ c ∷ d ∷ 0x3A ∷ g ∷ i ∷ r) x
   colons_sound [] x e = whole_sound [] x (λ q z. nil≢cons z) e
   colons_sound (k ∷ r) x e =
       by_test (eqb k 0x2E)
       (λ p. rw (eqb-true k 0x2E p) (parted_sound r x (rw p at e)))
       (λ p. whole_sound (k ∷ r) x (λ q z. eqb-false k 0x2E p (first z)) (rw p at e))
 
-  compact_sound : (r : List ℕ) (x : Timed) → no_digits (take 2 r) ≡ true → timed H M S [] r ≡ some x → TimeIs (a ∷ b ∷ c ∷ d ∷ g ∷ i ∷ r) x
+  compact_sound : (r : List ℕ) (x : Timed) → no_digits (take 2 r) ≡ true → timed H M S [] r ≡ Some x → TimeIs (a ∷ b ∷ c ∷ d ∷ g ∷ i ∷ r) x
   compact_sound r x n e =
       let y = in_range_lem H M S (nanos_of []) r x e in
       rw y.1 (record {
@@ -192,7 +192,7 @@ module _ (a b c d g i : ℕ) (fa : is_digit a ≡ true) (fb : is_digit b ≡ tru
         nanos = worth_nanos a b c d g i fa fb fc fd fg fi [];
       })
 
-pub time_sound : (t : List ℕ) (x : Timed) → time_of t ≡ some x → TimeIs t x
+pub time_sound : (t : List ℕ) (x : Timed) → time_of t ≡ Some x → TimeIs t x
 unfolding time_of
 time_sound t x e =
     by_test (has_colons t)

@@ -3,7 +3,7 @@ use mathlib.Core.Path.{◌≡◌, refl, sym, ap, ◌∙◌, subst}
 use mathlib.Core.Bool.{true, false}
 use mathlib.Core.Logic.{◌↔◌}
 use mathlib.Core.List.{List, ◌∷◌, ◌++◌}
-use mathlib.Core.Option.{Option, none, some}
+use Rattle.std.specs.Prelude.{Option, None, Some}
 use Prim.Native.Nat.{ℕ, ◌<◌}
 use native.Mathlib.Omega.{arith}
 use lib.Dec.{eqb}
@@ -30,7 +30,7 @@ is_utf8 {t} u = (utf.agrees t).0 u
 
 -- ---- a refusal of the relation is the computation's
 
-day_of_lem : {a : List ℕ} {z : ℤ} (r : List ℕ) → Dated a z → day_of (a ++ r) ≡ some z
+day_of_lem : {a : List ℕ} {z : ℤ} (r : List ℕ) → Dated a z → day_of (a ++ r) ≡ Some z
 day_of_lem r (dated z f e) = day_read f r z e
 
 -- a date, and a byte behind it
@@ -53,7 +53,7 @@ module _ {a : List ℕ} (r : List ℕ) (b : ℕ) {z : ℤ} where
   on_time_lem u d s = let y = byte_10 d in rw (is_utf8 u, behind d, ne_eqb (length (a ++ (b ∷ r))) 10 (long d), y.0, y.1, s)
 
 -- the date that a text begins with, if the computation finds one
-date_at : (t : List ℕ) (z : ℤ) → day_of t ≡ some z → DateIs t z
+date_at : (t : List ℕ) (z : ℤ) → day_of t ≡ Some z → DateIs t z
 unfolding day_of
 date_at t z e = by_test (is_date t) (λ p. date_sound t z p (rw p at e)) (λ p. none_some (rw p at e))
 
@@ -62,15 +62,15 @@ unfolding plain_moment
 no_day t h = by (day_of t) refl
   where
     by : (o : Option ℤ) → day_of t ≡ o → plain_moment t ≡ refused 2
-    by none e = rw e
-    by (some z) e = let x = date_at t z e in absurd (h x.bytes (drop 10 t) z x.text (dated z x.full x.named))
+    by None e = rw e
+    by (Some z) e = let x = date_at t z e in absurd (h x.bytes (drop 10 t) z x.text (dated z x.full x.named))
 
-no_longest : (r : List ℕ) → ((c : Clock) (e : List ℕ) → LongestTime r c e → ⊥) → time_of r ≡ none
+no_longest : (r : List ℕ) → ((c : Clock) (e : List ℕ) → LongestTime r c e → ⊥) → time_of r ≡ None
 no_longest r h = by (time_of r) refl
   where
-    by : (o : Option Timed) → time_of r ≡ o → time_of r ≡ none
-    by none e = e
-    by (some x) e = let k = time_sound r x e in absurd (h k.fields x.tail k.time)
+    by : (o : Option Timed) → time_of r ≡ o → time_of r ≡ None
+    by None e = e
+    by (Some x) e = let k = time_sound r x e in absurd (h k.fields x.tail k.time)
 
 into : {t : List ℕ} {n : ℕ} → Refuses t n → stamp_nanos t ≡ refused n
 into (not_utf8 {t} h) = rw (fails (utf8 t) (utf.agrees t).1 h)
@@ -100,8 +100,8 @@ module _ (t : List ℕ) (u : utf8 t ≡ true) (z : ℤ) (x : DateIs t z) where
   back_at h {n} = subst (λ (v : List ℕ). Refuses v n) (sym (text_is h))
 
   timed : (length t ≡ 10 → ⊥) → is_separator (get_or t 10 0) ≡ true → (o : Option Timed) → time_of (drop 11 t) ≡ o → (n : ℕ) → on_time z o ≡ refused n → Refuses t n
-  timed h s none p n e = rw (← same e) (back_at h (no_time x.bytes (drop 11 t) (get_or t 10 0) z (utf8_is h) its_date (separator_sound (get_or t 10 0) s) (λ c e l. none_some (sym p ∙ time_read l))))
-  timed h s (some y) p n e =
+  timed h s None p n e = rw (← same e) (back_at h (no_time x.bytes (drop 11 t) (get_or t 10 0) z (utf8_is h) its_date (separator_sound (get_or t 10 0) s) (λ c e l. none_some (sym p ∙ time_read l))))
+  timed h s (Some y) p n e =
       by_test (is_ending y.tail)
       (λ q. clash (sym (rw q at e)))
       (λ q.
@@ -125,8 +125,8 @@ unfolding plain_moment
 early t u n = by (day_of t) refl
   where
     by : (o : Option ℤ) → day_of t ≡ o → on_date t o ≡ refused n → Refuses t n
-    by none p e = rw (← same e) (no_date ((utf.agrees t).1 u) (λ a r z q d. none_some (sym p ∙ ap day_of q ∙ day_of_lem r d)))
-    by (some z) p e = after t u z (date_at t z p) n e
+    by None p e = rw (← same e) (no_date ((utf.agrees t).1 u) (λ a r z q d. none_some (sym p ∙ ap day_of q ∙ day_of_lem r d)))
+    by (Some z) p e = after t u z (date_at t z p) n e
 
 -- ---- the theorem
 

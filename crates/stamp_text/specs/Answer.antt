@@ -1,7 +1,6 @@
 -- What a stamp reads as, computed, with the refusals 1 to 6 of document 01 in order. `Rattle.stamp_text.proofs.Agreement` joins the
 -- computation to the grammar. Assumes nothing.
-use Rattle.std.specs.Prelude.{Bool, true, false, cond, not, ◌&&◌, ◌||◌, List, [], ◌∷◌, ℕ, ◌+◌, ◌*◌, eqb, length, get_or, take, drop, ℤ, pos}
-use Rattle.std.proofs.Math.Option.{Option, none, some}
+use Rattle.std.specs.Prelude.{Bool, true, false, cond, not, ◌&&◌, ◌||◌, List, [], ◌∷◌, ℕ, ◌+◌, ◌*◌, eqb, length, get_or, take, drop, ℤ, pos, Option, None, Some}
 use Rattle.calendar.specs.Calendar.{civil}
 use Rattle.number.specs.Widths.{in_signed}
 use Rattle.refusal.specs.Outcome.{Outcome, accepted, refused, in_utf8, and_then}
@@ -17,7 +16,7 @@ is_date t =
 
 -- the day that it names, if there is one
 unfoldable pub day_of : List ℕ → Option ℤ
-day_of t = cond (is_date t) (civil (pos (two_at t 0 * 100 + two_at t 2)) (two_at t 5) (two_at t 8)) none
+day_of t = cond (is_date t) (civil (pos (two_at t 0 * 100 + two_at t 2)) (two_at t 5) (two_at t 8)) None
 
 -- the text begins with hh:mm:ss
 abbrev pub has_colons : List ℕ → Bool
@@ -36,7 +35,7 @@ pub record Timed : Type 0 where
 
 -- the time with these fields and nanoseconds, if the fields are in range
 abbrev pub timed_at : ℕ → ℕ → ℕ → ℕ → List ℕ → Option Timed
-timed_at h m s n tail = cond (in_range h m s) (some (record { nanos = ((h * 60 + m) * 60 + s) * 1000000000 + n; tail = tail })) none
+timed_at h m s n tail = cond (in_range h m s) (Some (record { nanos = ((h * 60 + m) * 60 + s) * 1000000000 + n; tail = tail })) None
 
 -- the time with these fields and the digits of a fraction
 abbrev pub timed : ℕ → ℕ → ℕ → List ℕ → List ℕ → Option Timed
@@ -44,14 +43,14 @@ timed h m s f tail = timed_at h m s (nanos_of f) tail
 
 -- after the seconds: a point must have a digit behind it; all digits belong to the fraction
 abbrev pub with_fraction : ℕ → ℕ → ℕ → ℕ → List ℕ → Option Timed
-with_fraction h m s n r = cond (eqb n 0) none (timed h m s (take n r) (drop n r))
+with_fraction h m s n r = cond (eqb n 0) None (timed h m s (take n r) (drop n r))
 
 abbrev pub after_seconds : ℕ → ℕ → ℕ → List ℕ → Option Timed
 after_seconds h m s r = cond (eqb (get_or r 0 0) 0x2E) (with_fraction h m s (run (drop 1 r)) (drop 1 r)) (timed h m s [] r)
 
 -- a time without colons
 abbrev pub basic_time : List ℕ → Option Timed
-basic_time t = cond (is_basic t) (timed (two_at t 0) (two_at t 2) (two_at t 4) [] (drop 6 t)) none
+basic_time t = cond (is_basic t) (timed (two_at t 0) (two_at t 2) (two_at t 4) [] (drop 6 t)) None
 
 -- the time that a text begins with, if it begins with one
 unfoldable pub time_of : List ℕ → Option Timed
@@ -73,8 +72,8 @@ at_end z x = cond (is_ending x.tail) (accepted (moment z x.nanos)) (refused 5)
 
 -- 4: the bytes from 11 on are no time
 abbrev pub on_time : ℤ → Option Timed → Outcome Moment
-on_time z none = refused 4
-on_time z (some x) = at_end z x
+on_time z None = refused 4
+on_time z (Some x) = at_end z x
 
 -- 3: byte 10 is no separator; a text of 10 bytes means midnight
 abbrev pub after_date : List ℕ → ℤ → Outcome Moment
@@ -84,8 +83,8 @@ after_date t z =
 
 -- 2: the text begins with no date of the calendar
 abbrev pub on_date : List ℕ → Option ℤ → Outcome Moment
-on_date t none = refused 2
-on_date t (some z) = after_date t z
+on_date t None = refused 2
+on_date t (Some z) = after_date t z
 
 unfoldable pub plain_moment : List ℕ → Outcome Moment
 plain_moment t = on_date t (day_of t)

@@ -1,8 +1,7 @@
 -- What a stamp names, as relations: a text of the grammar whose date is a day of the calendar and whose time is in range names a moment,
 -- and is read as the nanoseconds of its instant where they fit 64 signed bits; and why any other text is refused.
 -- `Rattle.stamp_text.proofs.Agreement` and `Refusals` join this to the computation. Assumes nothing.
-use Rattle.std.specs.Prelude.{◌≡◌, true, false, ◌⊎◌, List, [], ◌∷◌, ◌++◌, ℕ, take, ℤ, pos}
-use Rattle.std.proofs.Math.Option.{some}
+use Rattle.std.specs.Prelude.{◌≡◌, true, false, ◌⊎◌, List, [], ◌∷◌, ◌++◌, ℕ, take, ℤ, pos, Some}
 use Rattle.calendar.specs.Calendar.{civil}
 use Rattle.number.specs.Widths.{in_signed}
 use Rattle.text.specs.Digits.{is_digit, digits, value}
@@ -20,7 +19,7 @@ pub data Rfc3339 : List ℕ → Ymd → Clock → Type 0 where
 
 -- a text and the moment that it names
 pub data Names : List ℕ → Moment → Type 0 where
-  names : {t : List ℕ} {d : Ymd} {c : Clock} (z : ℤ) → Stamp t d c → civil (pos d.year) d.month d.day ≡ some z
+  names : {t : List ℕ} {d : Ymd} {c : Clock} (z : ℤ) → Stamp t d c → civil (pos d.year) d.month d.day ≡ Some z
       → in_range c.hour c.minute c.second ≡ true → Names t (moment z (since_midnight c))
 
 -- a text and the nanoseconds that it is read as
@@ -29,7 +28,7 @@ pub data Reads : List ℕ → ℤ → Type 0 where
 
 -- the bytes of a date that the calendar has, and its day
 pub data Dated : List ℕ → ℤ → Type 0 where
-  dated : {a : List ℕ} {d : Ymd} (z : ℤ) → FullDate a d → civil (pos d.year) d.month d.day ≡ some z → Dated a z
+  dated : {a : List ℕ} {d : Ymd} (z : ℤ) → FullDate a d → civil (pos d.year) d.month d.day ≡ Some z → Dated a z
 
 -- a text, the time that it begins with, all of it and in range, and the bytes r after it (document 01, "Dates and stamps")
 pub data LongestTime : List ℕ → Clock → List ℕ → Type 0 where

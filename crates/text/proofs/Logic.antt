@@ -1,6 +1,6 @@
 -- Two tests at once, and an option that is none and some. Assumes nothing.
 use Rattle.std.proofs.Common.{◌≡◌, ℕ, Bool, true, ◌&&◌, arith}
-use mathlib.Core.Option.{none, some}
+use Rattle.std.specs.Prelude.{None, Some}
 use Rattle.text.proofs.Bools.{and_left, and_right}
 
 -- both parts of a test
@@ -15,5 +15,5 @@ in_pairs a b c d e =
     let y = both c d p.1 in
     (x.0, x.1, y.0, y.1)
 
-pub none_some {ℓ} : {X : Type ℓ} {A : Type 0} {a : A} → none ≡ some a → X
+pub none_some {ℓ} : {X : Type ℓ} {A : Type 0} {a : A} → None ≡ Some a → X
 none_some e = let x : ◌≡◌ {A = ℕ} 0 1 = cc in absurd (omega arith)

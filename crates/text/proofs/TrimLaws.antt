@@ -1,5 +1,5 @@
 -- Trimming: blanks taken from either end one by one, and that what is computed is the trimmed text. Assumes nothing.
-use Rattle.std.proofs.Common.{◌≡◌, ℕ, zero, suc, ◌+◌, ◌-◌, ◌<◌, ◌≤◌, true, false, List, [], ◌∷◌, ◌++◌, length, get_or, take, drop, sym, refl, ap, ◌∙◌, not-suc-le-zero, add-one, sub-one, arith, drop_of_length-le, drop-cons, take-suc, ne_eqb}
+use Rattle.std.proofs.Common.{◌≡◌, ℕ, zero, suc, ◌-◌, ◌<◌, ◌≤◌, true, false, List, [], ◌∷◌, ◌++◌, length, get_or, take, drop, sym, refl, ap, ◌∙◌, sub-one, arith, take-suc, ne_eqb}
 use lib.Seq.{take-length}
 use Rattle.text.specs.Digits.{digit_of}
 use Rattle.text.specs.Trim.{blank, trim_start, before, trim_end, trimmed}
@@ -7,18 +7,11 @@ use Rattle.text.proofs.Bools.{by_test}
 
 -- ---- from the start
 
-module _ (s : List ℕ) (i : ℕ) (h : i < length s) where
-  pub start_on : blank (get_or s i 0) ≡ true → trim_start (drop i s) ≡ trim_start (drop (i + 1) s)
-  unfolding trim_start
-  start_on e = rw (drop-cons s i 0 h, add-one, e)
-
-  pub start_off : blank (get_or s i 0) ≡ false → trim_start (drop i s) ≡ drop i s
-  unfolding trim_start
-  start_off e = rw (drop-cons s i 0 h, e)
-
-pub start_end : (s : List ℕ) (i : ℕ) → length s ≤ i → drop i s ≡ trim_start (drop i s)
+-- a text without its first byte, a blank
+pub start_step : (t : List ℕ) → 1 ≤ length t → blank (get_or t 0 0) ≡ true → trim_start (take (length t - 1) (drop 1 t)) ≡ trim_start t
 unfolding trim_start
-start_end s i h = rw (drop_of_length-le s h)
+start_step [] h e = absurd (omega arith)
+start_step (b ∷ t) h e = rw (e, sub-one, take-length t)
 
 -- ---- from the end
 
@@ -49,10 +42,9 @@ module _ (s : List ℕ) (n : ℕ) (p : 0 < n) (h : n ≤ length s) where
   pub end_off : blank (get_or s (n - 1) 0) ≡ false → trim_end (take n s) ≡ take n s
   end_off e = rw (last s n p h) (snoc_kept (take (n - 1) s) (get_or s (n - 1) 0) e)
 
-pub end_none : (s : List ℕ) (n : ℕ) → n ≤ 0 → take n s ≡ trim_end (take n s)
-unfolding trim_end
-end_none s zero h = refl
-end_none s (suc n) h = absurd (not-suc-le-zero h)
+-- a text without its last byte, a blank
+pub end_step : (t : List ℕ) → 1 ≤ length t → blank (get_or t (length t - 1) 0) ≡ true → trim_end (take (length t - 1) t) ≡ trim_end t
+end_step t h e = rw (take-length t) at (sym (end_on t (length t) (omega arith) (omega arith) e))
 
 -- ---- a digit is no blank
 
@@ -72,7 +64,7 @@ unfolding trim_start
 start_kept [] e = refl
 start_kept (b ∷ t) e = rw e
 
-pub end_kept : (s : List ℕ) → 0 < length s → blank (get_or s (length s - 1) 0) ≡ false → trim_end s ≡ s
+pub end_kept : (s : List ℕ) → 1 ≤ length s → blank (get_or s (length s - 1) 0) ≡ false → trim_end s ≡ s
 end_kept s h e = rw (take-length s) at (end_off s (length s) h (omega arith) e)
 
 -- ---- a text that need be trimmed at one end only, or at none
@@ -109,3 +101,15 @@ module _ (s : List ℕ) where
       by : (s : List ℕ) → length s ≡ 0 → s ≡ trimmed s
       by [] h = refl
       by (b ∷ t) h = absurd (omega arith)
+
+-- ---- nothing is left of no text
+
+pub start_none : (t : List ℕ) → length t < 1 → t ≡ trim_start t
+unfolding trim_start
+start_none [] h = refl
+start_none (b ∷ t) h = absurd (omega arith)
+
+pub end_none : (t : List ℕ) → length t < 1 → t ≡ trim_end t
+unfolding trim_end
+end_none [] h = refl
+end_none (b ∷ t) h = absurd (omega arith)

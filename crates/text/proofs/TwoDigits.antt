@@ -1,11 +1,12 @@
 -- Tests of the code, on bytes less 48, are tests of the definitions, on bytes: for a sign, for a digit, and for two digits at a place.
 -- Assumes nothing.
-use Rattle.std.proofs.Common.{◌≡◌, ℕ, ◌+◌, ◌*◌, ◌<◌, ◌≤◌, Bool, true, false, cond, not, ◌&&◌, eqb, ltb, leb, List, length, get_or, drop, sym, refl, ap, ◌∙◌, add_assoc, arith, get_or-drop, ltb-false, ltb-true, lt-ltb, eq-eqb, ne_eqb, eqb-true, leb-false, leb-true}
+use Rattle.std.proofs.Common.{◌≡◌, ℕ, ◌+◌, ◌<◌, Bool, true, false, cond, not, ◌&&◌, eqb, ltb, leb, List, length, get_or, drop, sym, refl, ap, subst, ◌∙◌, Option, Some, None, add_assoc, arith, get_or-drop, ltb-false, ltb-true, eq-eqb, ne_eqb, eqb-true, leb-false, leb-true}
 use lib.ListN.{get_or-eq_default}
+use Rattle.std.proofs.lemmas.Option.{cond_some, none-some}
 use borrow.Author.Tests.{eqb-false}
 use Rattle.text.specs.Digits.{is_digit, digit_of, two_digits, two_at}
 use Rattle.text.proofs.Bools.{and_left, and_right, and_false, by_test, within_is}
-use Rattle.text.proofs.DigitLaws.{is_digit_lem, no_digit, is_worth}
+use Rattle.text.proofs.DigitLaws.{is_digit_lem, no_digit}
 
 -- ---- a byte b: the sign with the byte s, as a digit k, and a digit
 
@@ -29,48 +30,40 @@ digit_below b d fb e =
 
 -- ---- two digits at a place
 
--- their number, and 255 where one of them is no digit
-abbrev pub two_or : List ℕ → ℕ → ℕ
-two_or t i = cond (two_digits t i) (two_at t i) 255
+-- their number, where both are digits
+abbrev pub two_or : List ℕ → ℕ → Option ℕ
+two_or t i = cond (two_digits t i) (Some (two_at t i)) None
 
-pub is_two : (t : List ℕ) (i : ℕ) → ltb (two_or t i) 100 ≡ two_digits t i
-is_two t i =
-    by_test (two_digits t i)
-    (λ e. rw e (lt-ltb (two_at t i) 100 (omega (
-      arith,
-      within_is 0x30 (get_or t i 0) 0x39 (and_left (is_digit (get_or t i 0)) (is_digit (get_or t (i + 1) 0)) e),
-      within_is 0x30 (get_or t (i + 1) 0) 0x39 (and_right (is_digit (get_or t i 0)) (is_digit (get_or t (i + 1) 0)) e),
-    ))))
-    (λ e. rw e)
-
-module _ (t : List ℕ) (i a b : ℕ) (fits : (k : ℕ) → get_or t k 0 < 256) (ea : a ≡ digit_of (get_or t i 0)) (eb : b ≡ digit_of (get_or t (i + 1) 0)) where
-  pub first_no : 10 ≤ a → 255 ≡ two_or t i
-  first_no h = rw (no_digit (get_or t i 0) a (fits i) ea h)
-
-  pub second_no : 10 ≤ b → 255 ≡ two_or t i
-  second_no h = rw (no_digit (get_or t (i + 1) 0) b (fits (i + 1)) eb h, and_false (is_digit (get_or t i 0)))
-
-  pub both_yes : a < 10 → b < 10 → a * 10 + b ≡ two_or t i
-  both_yes g h =
-      rw (is_digit_lem (get_or t i 0) a (fits i) ea g, is_digit_lem (get_or t (i + 1) 0) b (fits (i + 1)) eb h)
-      (omega (arith, is_worth (get_or t i 0) a (fits i) ea g, is_worth (get_or t (i + 1) 0) b (fits (i + 1)) eb h))
+pub two_below : (t : List ℕ) (i : ℕ) → two_digits t i ≡ true → two_at t i < 100
+two_below t i e = omega (
+  arith,
+  within_is 0x30 (get_or t i 0) 0x39 (and_left (is_digit (get_or t i 0)) (is_digit (get_or t (i + 1) 0)) e),
+  within_is 0x30 (get_or t (i + 1) 0) 0x39 (and_right (is_digit (get_or t i 0)) (is_digit (get_or t (i + 1) 0)) e),
+)
 
 -- past the end there are no two digits
 pub past_end : (t : List ℕ) (i : ℕ) → length t < i + 2 → two_digits t i ≡ false
 past_end t i h = rw (get_or-eq_default t 0 {n = i + 1} (omega arith)) (and_false (is_digit (get_or t i 0)))
 
--- ---- place i of the rest from n on, which is place n + i, and the value v that the code has of it
+not_some : (b : Bool) (x : ℕ) → cond b (Some x) None ≡ None → b ≡ false
+not_some true x h = absurd (none-some x (sym h))
+not_some false x h = refl
 
-two_from : (n : ℕ) (s : List ℕ) (i : ℕ) → two_or (drop n s) i ≡ two_or s (n + i)
+-- ---- place i of the rest from n on, which is place n + i, and what the code has of it
+
+two_from : (n : ℕ) (s : List ℕ) (i : ℕ) → two_or s (n + i) ≡ two_or (drop n s) i
 two_from n s i = rw (get_or-drop n s i 0, get_or-drop n s (i + 1) 0, ← add_assoc n i 1)
 
+module _ (n : ℕ) (s : List ℕ) (i : ℕ) {o : Option ℕ} (e : o ≡ two_or s (n + i)) where
+  pub two_none : o ≡ None → two_digits (drop n s) i ≡ false
+  two_none h = not_some (two_digits (drop n s) i) (two_at (drop n s) i) (sym (two_from n s i) ∙ sym e ∙ h)
+
+  pub two_some : {x : ℕ} → o ≡ Some x → (two_digits (drop n s) i ≡ true) × (x ≡ two_at (drop n s) i) × (x < 100)
+  two_some {x} h =
+      let r = cond_some (two_digits (drop n s) i) (two_at (drop n s) i) x (sym (two_from n s i) ∙ sym e ∙ h) in
+      (r.0, sym r.1, subst (λ k. k < 100) r.1 (two_below (drop n s) i r.0))
+
 module _ (n : ℕ) (s : List ℕ) (i : ℕ) {v : ℕ} where
-  pub two_test_lem : v ≡ two_or s (n + i) → ltb v 100 ≡ two_digits (drop n s) i
-  two_test_lem e = ap (λ (x : ℕ). ltb x 100) (e ∙ sym (two_from n s i)) ∙ is_two (drop n s) i
-
-  pub two_is : v ≡ two_or s (n + i) → two_digits (drop n s) i ≡ true → v ≡ two_at (drop n s) i
-  two_is e h = e ∙ sym (two_from n s i) ∙ rw h
-
   pub sign_test : (k c : ℕ) → get_or s (n + i) 0 < 256 → c < 256 → k ≡ digit_of c → v ≡ digit_of (get_or s (n + i) 0) → eqb v k ≡ eqb (get_or (drop n s) i 0) c
   sign_test k c fb fc ek e = rw (e, get_or-drop n s i 0) (sign (get_or s (n + i) 0) k c fb fc ek)
 

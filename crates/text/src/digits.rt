@@ -1,5 +1,5 @@
 // Digits of a text.
-ghost use Rattle.std.specs.Prelude.{◌≡◌, ◌+◌, ◌≤◌, length, drop, if◌then◌else◌};
+ghost use Rattle.std.specs.Prelude.{◌≡◌, ◌+◌, ◌≤◌, length, drop, if◌then◌else◌, Some, None};
 ghost use Rattle.text.specs.Digits.{digit_of, run, two_digits, two_at};
 
 // The separators of dates and times as digits: each byte less 48, wrapping.
@@ -21,41 +21,44 @@ pub const SPACE: u8 = 240;
 pub fn digit(b: u8) -> u8
     ensures { result ≡ digit_of b }
 {
-    std::num::wrapping_sub_u8(b, 48)
+    b.wrapping_sub(48)
 }
 
-// The number of the two digits at a place, and 255 where one of them is no digit or past the end.
-pub fn two(s: &[u8], at: usize) -> u8
-    ensures { result ≡ (if two_digits s.now at then two_at s.now at else 255) }
+// The number of the two digits at a place; none where one of them is no digit or past the end.
+pub fn two(s: &[u8], at: usize) -> Option<u8>
+    ensures { result ≡ (if two_digits s.now at then Some (two_at s.now at) else None) }
 {
-    if s.len() <= at {
-        return 255;
+    let [a, b, ..] = s.get(at..)? else {
+        return None;
+    };
+    let a = digit(*a);
+    let b = digit(*b);
+    if a < 10 && b < 10 {
+        Some(a * 10 + b)
+    } else {
+        None
     }
-    let next = at + 1;
-    if s.len() <= next {
-        return 255;
+}
+
+// How many digits a text begins with.
+pub fn run_len(s: &[u8]) -> usize
+    ensures { (result ≡ run s.now) × (result ≤ length s.now) }
+{
+    for (i, &b) in s.iter().enumerate() {
+        if 10 <= digit(b) {
+            return i;
+        }
     }
-    let a = digit(s[at]);
-    let b = digit(s[next]);
-    if 10 <= a {
-        return 255;
-    }
-    if 10 <= b {
-        return 255;
-    }
-    a * 10 + b
+    s.len()
 }
 
 // Where the digits that stand at a place end.
 pub fn run_end(s: &[u8], from: usize) -> usize
     ensures { (result ≡ from + run (drop from s.now)) × (from ≤ length s.now → result ≤ length s.now) }
 {
-    let mut i = from;
-    while i < s.len() {
-        if 10 <= digit(s[i]) {
-            return i;
-        }
-        i += 1;
+    if from < s.len() {
+        from + run_len(&s[from..])
+    } else {
+        from
     }
-    i
 }

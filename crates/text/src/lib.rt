@@ -10,5 +10,5 @@ pub mod trim;
 pub fn byte_at(s: &[u8], i: usize) -> u8
     ensures { result ≡ slice_index s.now i }
 {
-    if i < s.len() { s[i] } else { 0 }
+    s.get(i).copied().unwrap_or(0)
 }

@@ -15,46 +15,43 @@ pub fn is_blank(b: u8) -> bool
 pub fn trim_ascii_start(s: &[u8]) -> &[u8]
     ensures { result.now ≡ trim_start s.now }
 {
-    let mut i = 0;
-    while i < s.len() {
-        if !is_blank(s[i]) {
-            return &s[i..];
+    let mut rest = s;
+    while let [first, behind @ ..] = rest {
+        if !is_blank(*first) {
+            break;
         }
-        i += 1;
+        rest = behind;
     }
-    &s[i..]
+    rest
 }
 
 // Rust's `trim_ascii_end`.
 pub fn trim_ascii_end(s: &[u8]) -> &[u8]
     ensures { result.now ≡ trim_end s.now }
 {
-    let mut end = s.len();
-    while 0 < end {
-        if !is_blank(s[end - 1]) {
-            return &s[..end];
+    let mut rest = s;
+    while let [before @ .., last] = rest {
+        if !is_blank(*last) {
+            break;
         }
-        end -= 1;
+        rest = before;
     }
-    &s[..end]
+    rest
 }
 
 // Nothing to do where the text begins and ends with a digit.
 pub fn trim_pre_and_post_whitespace(s: &[u8]) -> &[u8]
     ensures { result.now ≡ trimmed s.now }
 {
-    if s.len() == 0 {
+    if s.is_empty() {
         return s;
     }
     let prefix = 10 <= digits::digit(s[0]);
     let suffix = 10 <= digits::digit(s[s.len() - 1]);
-    if prefix {
-        if suffix {
-            trim_ascii_end(trim_ascii_start(s))
-        } else {
-            trim_ascii_start(s)
-        }
-    } else {
-        if suffix { trim_ascii_end(s) } else { s }
+    match (prefix, suffix) {
+        (true, true) => trim_ascii_end(trim_ascii_start(s)),
+        (true, false) => trim_ascii_start(s),
+        (false, true) => trim_ascii_end(s),
+        (false, false) => s,
     }
 }

@@ -4,7 +4,7 @@ use mathlib.Core.Path.{◌≡◌, refl, sym, ap, ◌∙◌, subst}
 use mathlib.Core.Bool.{Bool, true, false, cond, ◌&&◌}
 use mathlib.Core.Logic.{inr, ⊎_elim, ◌↔◌}
 use mathlib.Core.List.{List, [], ◌∷◌, ◌++◌}
-use mathlib.Core.Option.{Option, none, some}
+use Rattle.std.specs.Prelude.{Option, None, Some}
 use Prim.Native.Nat.{ℕ, suc, ◌+◌, ◌-◌, ◌*◌, ◌%◌, ◌≤◌, ◌<◌}
 use native.Mathlib.Omega.{arith}
 use lib.Dec.{eqb, leb, ltb, lit<}
@@ -28,35 +28,35 @@ use Rattle.clock.proofs.Figures.{by_one, by_two, one_figure, two_figures, size_o
 use Rattle.time.specs.Grammar.{Hour, one, two, Written, minutes, seconds, Letter, upper, lower, TimeOfDay, full, Reads, reads, Refuses, not_utf8, no_time}
 use Rattle.time.specs.Grammar as Grammar
 use Rattle.time.specs.declared.Half.{Half}
-use Rattle.time.specs.declared.Half.TheVariants.{Am as am, Pm as pm, Neither as neither}
+use Rattle.time.specs.declared.Half.TheVariants.{Am, Pm}
 use Rattle.time.specs.Answer.{is_letter, half_of, half, hour_of, in_day, fraction_of, with_fraction, after_minutes, after_hour, from_hour, time_of_day, on_time, time_nanos}
 
 -- ---- a time without AM or PM is read
 
-fraction_read : {x f : List ℕ} → Secfrac x f → fraction_of x ≡ some (nanos_of f)
+fraction_read : {x f : List ℕ} → Secfrac x f → fraction_of x ≡ Some (nanos_of f)
 unfolding nanos_of value
 fraction_read no_fraction = refl
 fraction_read (fraction {b} {f} p q) = rw (all_digits b f p q)
 
 -- after the hour h and its colon
-minutes_read : (p : Half) (h : ℕ) (m : List ℕ) → Figures 2 m → after_hour p h m ≡ in_day (value 0 m) 0 0 (hour_of p h)
+minutes_read : (p : Option Half) (h : ℕ) (m : List ℕ) → Figures 2 m → after_hour p h m ≡ in_day (value 0 m) 0 0 (hour_of p h)
 minutes_read p h = by_two (λ m. after_hour p h m ≡ in_day (value 0 m) 0 0 (hour_of p h)) (λ a b fa fb. rw (two_value a b, fa, fb))
 
-seconds_read : (p : Half) (h : ℕ) (m s x f : List ℕ) → Figures 2 m → Figures 2 s → Secfrac x f → after_hour p h (m ++ (0x3A ∷ (s ++ x))) ≡ in_day (value 0 m) (value 0 s) (nanos_of f) (hour_of p h)
+seconds_read : (p : Option Half) (h : ℕ) (m s x f : List ℕ) → Figures 2 m → Figures 2 s → Secfrac x f → after_hour p h (m ++ (0x3A ∷ (s ++ x))) ≡ in_day (value 0 m) (value 0 s) (nanos_of f) (hour_of p h)
 seconds_read p h m s x f q r v =
     by_two (λ m. after_hour p h (m ++ (0x3A ∷ (s ++ x))) ≡ in_day (value 0 m) (value 0 s) (nanos_of f) (hour_of p h))
     (λ a b fa fb.
     by_two (λ s. after_hour p h (a ∷ b ∷ 0x3A ∷ (s ++ x)) ≡ in_day (value 0 (a ∷ b ∷ [])) (value 0 s) (nanos_of f) (hour_of p h))
     (λ c d fc fd. rw (two_value a b, two_value c d, fa, fb, fc, fd, fraction_read v)) s r) m q
 
-hour_read : (p : Half) (h r : List ℕ) → Hour h → from_hour p (h ++ (0x3A ∷ r)) ≡ after_hour p (value 0 h) r
+hour_read : (p : Option Half) (h r : List ℕ) → Hour h → from_hour p (h ++ (0x3A ∷ r)) ≡ after_hour p (value 0 h) r
 hour_read p h r (one q) =
     by_one (λ h. from_hour p (h ++ (0x3A ∷ r)) ≡ after_hour p (value 0 h) r) (λ a fa. rw (one_value a, fa)) h q
 hour_read p h r (two q) =
     by_two (λ h. from_hour p (h ++ (0x3A ∷ r)) ≡ after_hour p (value 0 h) r)
     (λ a b fa fb. rw (two_value a b, not_sign b 0x3A fb (inr (omega arith)), fa, fb)) h q
 
-written_read : (p : Half) {t : List ℕ} {h m s : ℕ} {f : List ℕ} → Written t (clock h m s f) → from_hour p t ≡ in_day m s (nanos_of f) (hour_of p h)
+written_read : (p : Option Half) {t : List ℕ} {h m s : ℕ} {f : List ℕ} → Written t (clock h m s f) → from_hour p t ≡ in_day m s (nanos_of f) (hour_of p h)
 unfolding nanos_of value
 written_read p (minutes h m q r) = hour_read p h m q ∙ minutes_read p (value 0 h) m r
 written_read p (seconds h m s x f q r u v) = hour_read p h (m ++ (0x3A ∷ (s ++ x))) q ∙ seconds_read p (value 0 h) m s x f r u v
@@ -75,13 +75,13 @@ written_last (seconds h m s x f q r u v) =
     )
     (seconds_end u v)
 
-no_half : (t : List ℕ) → is_digit (get_or t (length t - 1) 0) ≡ true → half t ≡ neither
+no_half : (t : List ℕ) → is_digit (get_or t (length t - 1) 0) ≡ true → half t ≡ None
 no_half t e =
     let b : ℕ = get_or t (length t - 1) 0 in
     let m : is_letter 0x4D b ≡ false = rw (not_sign b 0x4D e (inr (omega arith)), not_sign b 0x6D e (inr (omega arith))) in
     rw (m, and_false (eqb (get_or t (length t - 3) 0) 0x20)) (both_ways (ltb (length t) 4))
   where
-    both_ways : (x : Bool) → cond x neither neither ≡ neither
+    both_ways : (x : Bool) → ◌≡◌ {A = Option Half} (cond x None None) None
     both_ways true = refl
     both_ways false = refl
 
@@ -100,13 +100,13 @@ without : (t : List ℕ) (s a m : ℕ) → take (length (t ++ (s ∷ a ∷ m ∷
 without t s a m = take_at t (s ∷ a ∷ m ∷ []) (length (t ++ (s ∷ a ∷ m ∷ [])) - 3) (omega (arith, length-append t (s ∷ a ∷ m ∷ [])))
 
 -- the letters, in either case
-is_am : (a m : ℕ) → Letter 0x41 0x61 a → Letter 0x4D 0x6D m → half_of 0x20 a m ≡ am
+is_am : (a m : ℕ) → Letter 0x41 0x61 a → Letter 0x4D 0x6D m → half_of 0x20 a m ≡ Some Am
 is_am a m upper upper = refl
 is_am a m upper lower = refl
 is_am a m lower upper = refl
 is_am a m lower lower = refl
 
-is_pm : (a m : ℕ) → Letter 0x50 0x70 a → Letter 0x4D 0x6D m → half_of 0x20 a m ≡ pm
+is_pm : (a m : ℕ) → Letter 0x50 0x70 a → Letter 0x4D 0x6D m → half_of 0x20 a m ≡ Some Pm
 is_pm a m upper upper = refl
 is_pm a m upper lower = refl
 is_pm a m lower upper = refl
@@ -117,18 +117,18 @@ written_size (minutes h m q r) = omega (arith, length-append h (0x3A ∷ m))
 written_size (seconds h m s x f q r u v) = omega (arith, length-append h (0x3A ∷ (m ++ (0x3A ∷ (s ++ x)))))
 
 -- a time whose hour, counted by p, is g
-counted : (p : Half) {t : List ℕ} {h m s : ℕ} {f : List ℕ} (g : ℕ) → Written t (clock h m s f) → hour_of p h ≡ some g → in_range g m s ≡ true → from_hour p t ≡ some (since_midnight (clock g m s f))
+counted : (p : Option Half) {t : List ℕ} {h m s : ℕ} {f : List ℕ} (g : ℕ) → Written t (clock h m s f) → hour_of p h ≡ Some g → in_range g m s ≡ true → from_hour p t ≡ Some (since_midnight (clock g m s f))
 counted p g w e ok = written_read p w ∙ rw (e, ok)
 
-pub complete : {t : List ℕ} {c : Clock} → TimeOfDay t c → in_range c.hour c.minute c.second ≡ true → time_of_day t ≡ some (since_midnight c)
+pub complete : {t : List ℕ} {c : Clock} → TimeOfDay t c → in_range c.hour c.minute c.second ≡ true → time_of_day t ≡ Some (since_midnight c)
 unfolding time_of_day
-complete (full {t} {c} w) ok = rw (no_half t (written_last w)) (counted neither c.hour w refl ok)
+complete (full {t} {c} w) ok = rw (no_half t (written_last w)) (counted None c.hour w refl ok)
 complete (Grammar.am {t} {h} {m} {s} {f} a b w p q x y) ok =
     rw (last_three t 0x20 a b (written_size w), is_am a b x y, without t 0x20 a b)
-    (counted am (h % 12) w (rw (le-leb 1 h p, le-leb h 12 q)) ok)
+    (counted (Some Am) (h % 12) w (rw (le-leb 1 h p, le-leb h 12 q)) ok)
 complete (Grammar.pm {t} {h} {m} {s} {f} a b w p q x y) ok =
     rw (last_three t 0x20 a b (written_size w), is_pm a b x y, without t 0x20 a b)
-    (counted pm (h % 12 + 12) w (rw (le-leb 1 h p, le-leb h 12 q)) ok)
+    (counted (Some Pm) (h % 12 + 12) w (rw (le-leb 1 h p, le-leb h 12 q)) ok)
 
 -- ---- a text that is read is a time of the grammar
 
@@ -137,7 +137,7 @@ record FractionIs (x : List ℕ) (n : ℕ) : Type 0 where
   point : Secfrac x behind
   nanos : nanos_of behind ≡ n
 
-fraction_sound : (x : List ℕ) (n : ℕ) → fraction_of x ≡ some n → FractionIs x n
+fraction_sound : (x : List ℕ) (n : ℕ) → fraction_of x ≡ Some n → FractionIs x n
 unfolding nanos_of value
 fraction_sound [] n e = record { behind = []; point = no_fraction; nanos = cc }
 fraction_sound (b ∷ []) n e = none_some e
@@ -145,23 +145,23 @@ fraction_sound (b ∷ c ∷ f) n e =
     by_test (eqb b 0x2E && digits (c ∷ f))
     (λ p.
     let q = digits_head c f (and_right (eqb b 0x2E) (digits (c ∷ f)) p) in
-    let r : some (nanos_of (c ∷ f)) ≡ some n = rw p at e in
+    let r : Some (nanos_of (c ∷ f)) ≡ Some n = rw p at e in
     rw (eqb-true b 0x2E (and_left (eqb b 0x2E) (digits (c ∷ f)) p)) (record { behind = c ∷ f; point = fraction q.0 q.1; nanos = cc }))
     (λ p. none_some (rw p at e))
 
 -- the time that a text t writes, and what it comes to where p counts the hours
-record Found (p : Half) (t : List ℕ) (n : ℕ) : Type 0 where
+record Found (p : Option Half) (t : List ℕ) (n : ℕ) : Type 0 where
   hour : ℕ
   minute : ℕ
   second : ℕ
   behind : List ℕ
   written : Written t (clock hour minute second behind)
-  value_is : in_day minute second (nanos_of behind) (hour_of p hour) ≡ some n
+  value_is : in_day minute second (nanos_of behind) (hour_of p hour) ≡ Some n
 
-module _ (p : Half) (h : List ℕ) (hh : Hour h) where
-  seconds_sound : (a b c d : ℕ) (x : List ℕ) (o : Option ℕ) (n : ℕ) → is_digit a ≡ true → is_digit b ≡ true → is_digit c ≡ true → is_digit d ≡ true → fraction_of x ≡ o → with_fraction p (value 0 h) (worth a * 10 + worth b) (worth c * 10 + worth d) o ≡ some n → Found p (h ++ (0x3A ∷ a ∷ b ∷ 0x3A ∷ c ∷ d ∷ x)) n
-  seconds_sound a b c d x none n fa fb fc fd g e = none_some e
-  seconds_sound a b c d x (some k) n fa fb fc fd g e =
+module _ (p : Option Half) (h : List ℕ) (hh : Hour h) where
+  seconds_sound : (a b c d : ℕ) (x : List ℕ) (o : Option ℕ) (n : ℕ) → is_digit a ≡ true → is_digit b ≡ true → is_digit c ≡ true → is_digit d ≡ true → fraction_of x ≡ o → with_fraction p (value 0 h) (worth a * 10 + worth b) (worth c * 10 + worth d) o ≡ Some n → Found p (h ++ (0x3A ∷ a ∷ b ∷ 0x3A ∷ c ∷ d ∷ x)) n
+  seconds_sound a b c d x None n fa fb fc fd g e = none_some e
+  seconds_sound a b c d x (Some k) n fa fb fc fd g e =
       let y = fraction_sound x k g in
       record {
         hour = value 0 h;
@@ -172,7 +172,7 @@ module _ (p : Half) (h : List ℕ) (hh : Hour h) where
         value_is = rw (two_value a b, two_value c d, y.nanos) e;
       }
 
-  after_minutes_sound : (a b : ℕ) (r : List ℕ) (n : ℕ) → is_digit a ≡ true → is_digit b ≡ true → after_minutes p (value 0 h) (worth a * 10 + worth b) r ≡ some n → Found p (h ++ (0x3A ∷ a ∷ b ∷ r)) n
+  after_minutes_sound : (a b : ℕ) (r : List ℕ) (n : ℕ) → is_digit a ≡ true → is_digit b ≡ true → after_minutes p (value 0 h) (worth a * 10 + worth b) r ≡ Some n → Found p (h ++ (0x3A ∷ a ∷ b ∷ r)) n
   unfolding nanos_of value
   after_minutes_sound a b [] n fa fb e =
       record {
@@ -192,7 +192,7 @@ module _ (p : Half) (h : List ℕ) (hh : Hour h) where
       rw (eqb-true k 0x3A (and_left (eqb k 0x3A) (two_digits (c ∷ d ∷ x) 0) q)) (seconds_sound a b c d x (fraction_of x) n fa fb s.0 s.1 refl (rw q at e)))
       (λ q. none_some (rw q at e))
 
-  after_hour_sound : (r : List ℕ) (n : ℕ) → after_hour p (value 0 h) r ≡ some n → Found p (h ++ (0x3A ∷ r)) n
+  after_hour_sound : (r : List ℕ) (n : ℕ) → after_hour p (value 0 h) r ≡ Some n → Found p (h ++ (0x3A ∷ r)) n
   after_hour_sound [] n e = none_some e
   after_hour_sound (a ∷ []) n e = none_some (rw (and_false (is_digit a)) at e)
   after_hour_sound (a ∷ b ∷ r) n e =
@@ -200,12 +200,12 @@ module _ (p : Half) (h : List ℕ) (hh : Hour h) where
       (λ q. let s = both (is_digit a) (is_digit b) q in after_minutes_sound a b r n s.0 s.1 (rw q at e))
       (λ q. none_some (rw q at e))
 
-one_digit : (p : Half) (a b : ℕ) (r : List ℕ) (n : ℕ) → is_digit a && eqb b 0x3A ≡ true → after_hour p (worth a) r ≡ some n → Found p (a ∷ b ∷ r) n
+one_digit : (p : Option Half) (a b : ℕ) (r : List ℕ) (n : ℕ) → is_digit a && eqb b 0x3A ≡ true → after_hour p (worth a) r ≡ Some n → Found p (a ∷ b ∷ r) n
 one_digit p a b r n q e =
     let d = both (is_digit a) (eqb b 0x3A) q in
     rw (eqb-true b 0x3A d.1) (after_hour_sound p (a ∷ []) (one (one_figure a d.0)) r n (rw (one_value a) e))
 
-from_hour_sound : (p : Half) (t : List ℕ) (n : ℕ) → from_hour p t ≡ some n → Found p t n
+from_hour_sound : (p : Option Half) (t : List ℕ) (n : ℕ) → from_hour p t ≡ Some n → Found p t n
 from_hour_sound p [] n e = none_some e
 from_hour_sound p (a ∷ []) n e = none_some (rw (and_false (is_digit a)) at e)
 from_hour_sound p (a ∷ b ∷ []) n e =
@@ -255,14 +255,14 @@ record TimeIs (t : List ℕ) (n : ℕ) : Type 0 where
   nanos : since_midnight fields ≡ n
 
 -- the hour g of the day is in range where there is a number of nanoseconds
-in_day_lem : (g m s k n : ℕ) → in_day m s k (some g) ≡ some n → (in_range g m s ≡ true) × (((g * 60 + m) * 60 + s) * 1000000000 + k ≡ n)
+in_day_lem : (g m s k n : ℕ) → in_day m s k (Some g) ≡ Some n → (in_range g m s ≡ true) × (((g * 60 + m) * 60 + s) * 1000000000 + k ≡ n)
 in_day_lem g m s k n e =
     by_test (in_range g m s)
-    (λ ok. let q : some (((g * 60 + m) * 60 + s) * 1000000000 + k) ≡ some n = rw ok at e in (ok, cc))
+    (λ ok. let q : Some (((g * 60 + m) * 60 + s) * 1000000000 + k) ≡ Some n = rw ok at e in (ok, cc))
     (λ no. none_some (rw no at e))
 
 -- an hour of twelve
-twelve : (h g m s k n : ℕ) → in_day m s k (cond (leb 1 h && leb h 12) (some g) none) ≡ some n → (1 ≤ h) × (h ≤ 12) × (in_day m s k (some g) ≡ some n)
+twelve : (h g m s k n : ℕ) → in_day m s k (cond (leb 1 h && leb h 12) (Some g) None) ≡ Some n → (1 ≤ h) × (h ≤ 12) × (in_day m s k (Some g) ≡ Some n)
 twelve h g m s k n e =
     by_test (leb 1 h && leb h 12)
     (λ q. let d = both (leb 1 h) (leb h 12) q in (leb-true 1 h d.0, leb-true h 12 d.1, rw q at e))
@@ -270,27 +270,27 @@ twelve h g m s k n e =
 
 -- by the ending: x is what stands before it
 module _ (x : List ℕ) (a m n : ℕ) (la : is_letter 0x4D m ≡ true) where
-  am_sound : is_letter 0x41 a ≡ true → from_hour am x ≡ some n → TimeIs (x ++ (0x20 ∷ a ∷ m ∷ [])) n
+  am_sound : is_letter 0x41 a ≡ true → from_hour (Some Am) x ≡ Some n → TimeIs (x ++ (0x20 ∷ a ∷ m ∷ [])) n
   am_sound l e =
-      let f = from_hour_sound am x n e in
+      let f = from_hour_sound (Some Am) x n e in
       let w = twelve f.hour (f.hour % 12) f.minute f.second (nanos_of f.behind) n f.value_is in
       let d = in_day_lem (f.hour % 12) f.minute f.second (nanos_of f.behind) n w.2 in
       record { fields = clock (f.hour % 12) f.minute f.second f.behind; time = Grammar.am a m f.written w.0 w.1 (letter_sound 0x41 a l) (letter_sound 0x4D m la); ok = d.0; nanos = d.1 }
 
-  pm_sound : is_letter 0x50 a ≡ true → from_hour pm x ≡ some n → TimeIs (x ++ (0x20 ∷ a ∷ m ∷ [])) n
+  pm_sound : is_letter 0x50 a ≡ true → from_hour (Some Pm) x ≡ Some n → TimeIs (x ++ (0x20 ∷ a ∷ m ∷ [])) n
   pm_sound l e =
-      let f = from_hour_sound pm x n e in
+      let f = from_hour_sound (Some Pm) x n e in
       let w = twelve f.hour (f.hour % 12 + 12) f.minute f.second (nanos_of f.behind) n f.value_is in
       let d = in_day_lem (f.hour % 12 + 12) f.minute f.second (nanos_of f.behind) n w.2 in
       record { fields = clock (f.hour % 12 + 12) f.minute f.second f.behind; time = Grammar.pm a m f.written w.0 w.1 (letter_sound 0x50 a l) (letter_sound 0x4D m la); ok = d.0; nanos = d.1 }
 
-full_sound : (t : List ℕ) (n : ℕ) → from_hour neither t ≡ some n → TimeIs t n
+full_sound : (t : List ℕ) (n : ℕ) → from_hour None t ≡ Some n → TimeIs t n
 full_sound t n e =
-    let f = from_hour_sound neither t n e in
+    let f = from_hour_sound None t n e in
     let d = in_day_lem f.hour f.minute f.second (nanos_of f.behind) n f.value_is in
     record { fields = clock f.hour f.minute f.second f.behind; time = full f.written; ok = d.0; nanos = d.1 }
 
-sound : (t : List ℕ) (n : ℕ) → time_of_day t ≡ some n → TimeIs t n
+sound : (t : List ℕ) (n : ℕ) → time_of_day t ≡ Some n → TimeIs t n
 unfolding time_of_day
 sound t n e =
     by_test (ltb (length t) 4)
@@ -347,7 +347,7 @@ ascii_time (Grammar.am {t} a b w p q x y) = ascii_append t _ (ascii_written w) (
 ascii_time (Grammar.pm {t} a b w p q x y) = ascii_append t _ (ascii_written w) (ascii_ending a b (ascii_letter (lit< tt) (lit< tt) x) (ascii_letter (lit< tt) (lit< tt) y))
 
 -- a text that is read is UTF-8, so that it need not be looked at first
-pub read_utf8 : (t : List ℕ) (n : ℕ) → time_of_day t ≡ some n → utf8 t ≡ true
+pub read_utf8 : (t : List ℕ) (n : ℕ) → time_of_day t ≡ Some n → utf8 t ≡ true
 read_utf8 t n e = ascii_utf8 t (ascii_time (sound t n e).time)
 
 -- ---- the theorem
@@ -359,8 +359,8 @@ agrees t z = (into, λ e. by_test (utf8 t) (λ u. back (time_of_day t) refl (rw 
     into (reads d ok) = rw (ascii_utf8 t (ascii_time d), complete d ok)
 
     back : (o : Option ℕ) → time_of_day t ≡ o → on_time o ≡ accepted z → Reads t z
-    back none p e = clash e
-    back (some n) p e = let x = sound t n p in let q : pos (since_midnight x.fields) ≡ z = cc x.nanos in rw (← q) (reads x.time x.ok)
+    back None p e = clash e
+    back (Some n) p e = let x = sound t n p in let q : pos (since_midnight x.fields) ≡ z = cc x.nanos in rw (← q) (reads x.time x.ok)
 
 -- at most one
 pub one_reading : {t : List ℕ} {y z : ℤ} → Reads t y → Reads t z → y ≡ z
@@ -371,8 +371,8 @@ pub refusals : (t : List ℕ) (n : ℕ) → Refuses t n ↔ (time_nanos t ≡ re
 refusals t n = (into, λ e. by_test (utf8 t) (λ u. back (time_of_day t) refl u (rw u at e)) (λ u. first u (rw u at e)))
   where
     by : (o : Option ℕ) → time_of_day t ≡ o → utf8 t ≡ true → ((z : ℤ) → Reads t z → ⊥) → time_nanos t ≡ refused 7
-    by none p u h = rw (u, p)
-    by (some k) p u h = absurd (h (pos k) ((agrees t (pos k)).1 (rw (u, p))))
+    by None p u h = rw (u, p)
+    by (Some k) p u h = absurd (h (pos k) ((agrees t (pos k)).1 (rw (u, p))))
 
     into : {n : ℕ} → Refuses t n → time_nanos t ≡ refused n
     into (not_utf8 h) = rw (fails (utf8 t) (utf.agrees t).1 h)
@@ -382,7 +382,7 @@ refusals t n = (into, λ e. by_test (utf8 t) (λ u. back (time_of_day t) refl u 
     first u e = rw (← same e) (not_utf8 (holds_not u (utf.agrees t).0))
 
     back : (o : Option ℕ) → time_of_day t ≡ o → utf8 t ≡ true → on_time o ≡ refused n → Refuses t n
-    back (some k) p u e = clash (sym e)
-    back none p u e =
+    back (Some k) p u e = clash (sym e)
+    back None p u e =
         let q : time_nanos t ≡ refused 7 = rw (u, p) in
         rw (← same e) (no_time ((utf.agrees t).1 u) (λ z r. clash (sym q ∙ (agrees t z).0 r)))

@@ -1,5 +1,4 @@
 -- Laws that belong to no one function.
 pub mod Agreement
 pub mod Bounds
-pub mod Fields
 pub mod Fractions

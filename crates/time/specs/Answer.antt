@@ -1,68 +1,66 @@
 -- What a time of day reads as, computed, with the refusals 1 and 7 of document 01. `Rattle.time.proofs.Agreement` joins the computation
 -- to the grammar. Assumes nothing.
-use Rattle.std.specs.Prelude.{Bool, cond, ◌&&◌, ◌||◌, List, [], ◌∷◌, ℕ, ◌+◌, ◌-◌, ◌*◌, ◌%◌, eqb, leb, ltb, length, get_or, take, drop, ℤ, pos}
-use Rattle.std.proofs.Math.Option.{Option, none, some}
+use Rattle.std.specs.Prelude.{Bool, cond, ◌&&◌, ◌||◌, List, [], ◌∷◌, ℕ, ◌+◌, ◌-◌, ◌*◌, ◌%◌, eqb, leb, ltb, length, get_or, take, drop, ℤ, pos, Option, None, Some}
 use Rattle.refusal.specs.Outcome.{Outcome, accepted, refused, in_utf8}
 use Rattle.text.specs.Digits.{is_digit, worth, digits, two_digits, two_at}
 use Rattle.clock.specs.Clock.{in_range, nanos_of}
 use Rattle.time.specs.declared.Half.{Half}
-use Rattle.time.specs.declared.Half.TheVariants.{Am, Pm, Neither}
+use Rattle.time.specs.declared.Half.TheVariants.{Am, Pm}
 
 -- a letter in either case
 abbrev pub is_letter : ℕ → ℕ → Bool
 is_letter capital b = eqb b capital || eqb b (capital + 0x20)
 
 -- the half of the day that three bytes name: one space and AM or PM
-abbrev pub half_of : ℕ → ℕ → ℕ → Half
+abbrev pub half_of : ℕ → ℕ → ℕ → Option Half
 half_of s a m =
-    cond (eqb s 0x20 && is_letter 0x4D m) (cond (is_letter 0x41 a) Am (cond (is_letter 0x50 a) Pm Neither)) Neither
+    cond (eqb s 0x20 && is_letter 0x4D m) (cond (is_letter 0x41 a) (Some Am) (cond (is_letter 0x50 a) (Some Pm) None)) None
 
 -- of the last three bytes; a text of fewer than 4 bytes is none
-abbrev pub half : List ℕ → Half
-half t = cond (ltb (length t) 4) Neither (half_of (get_or t (length t - 3) 0) (get_or t (length t - 2) 0) (get_or t (length t - 1) 0))
+abbrev pub half : List ℕ → Option Half
+half t = cond (ltb (length t) 4) None (half_of (get_or t (length t - 3) 0) (get_or t (length t - 2) 0) (get_or t (length t - 1) 0))
 
 -- the text without that ending
-abbrev pub body : Half → List ℕ → List ℕ
-body Am t = take (length t - 3) t
-body Pm t = take (length t - 3) t
-body Neither t = t
+abbrev pub body : Option Half → List ℕ → List ℕ
+body None t = t
+body (Some p) t = take (length t - 3) t
 
 -- the hour of the day
-abbrev pub hour_of : Half → ℕ → Option ℕ
-hour_of Am h = cond (leb 1 h && leb h 12) (some (h % 12)) none
-hour_of Pm h = cond (leb 1 h && leb h 12) (some (h % 12 + 12)) none
-hour_of Neither h = some h
+abbrev pub hour_of : Option Half → ℕ → Option ℕ
+hour_of None h = Some h
+hour_of (Some Am) h = cond (leb 1 h && leb h 12) (Some (h % 12)) None
+hour_of (Some Pm) h = cond (leb 1 h && leb h 12) (Some (h % 12 + 12)) None
 
 -- nanoseconds since midnight, if the fields are in range
 abbrev pub in_day : ℕ → ℕ → ℕ → Option ℕ → Option ℕ
-in_day m s n none = none
-in_day m s n (some h) = cond (in_range h m s) (some (((h * 60 + m) * 60 + s) * 1000000000 + n)) none
+in_day m s n None = None
+in_day m s n (Some h) = cond (in_range h m s) (Some (((h * 60 + m) * 60 + s) * 1000000000 + n)) None
 
 -- the fraction behind the seconds: nothing, or a point and one or more digits to the end
 abbrev pub fraction_of : List ℕ → Option ℕ
-fraction_of [] = some 0
-fraction_of (b ∷ []) = none
-fraction_of (b ∷ c ∷ f) = cond (eqb b 0x2E && digits (c ∷ f)) (some (nanos_of (c ∷ f))) none
+fraction_of [] = Some 0
+fraction_of (b ∷ []) = None
+fraction_of (b ∷ c ∷ f) = cond (eqb b 0x2E && digits (c ∷ f)) (Some (nanos_of (c ∷ f))) None
 
-abbrev pub with_fraction : Half → ℕ → ℕ → ℕ → Option ℕ → Option ℕ
-with_fraction p h m s none = none
-with_fraction p h m s (some n) = in_day m s n (hour_of p h)
+abbrev pub with_fraction : Option Half → ℕ → ℕ → ℕ → Option ℕ → Option ℕ
+with_fraction p h m s None = None
+with_fraction p h m s (Some n) = in_day m s n (hour_of p h)
 
 -- after the minutes: nothing, or a colon and two second digits, and perhaps a fraction
-abbrev pub after_minutes : Half → ℕ → ℕ → List ℕ → Option ℕ
+abbrev pub after_minutes : Option Half → ℕ → ℕ → List ℕ → Option ℕ
 after_minutes p h m [] = in_day m 0 0 (hour_of p h)
 after_minutes p h m (b ∷ r) =
-    cond (eqb b 0x3A && two_digits r 0) (with_fraction p h m (two_at r 0) (fraction_of (drop 2 r))) none
+    cond (eqb b 0x3A && two_digits r 0) (with_fraction p h m (two_at r 0) (fraction_of (drop 2 r))) None
 
 -- after the hour and its colon: two minute digits
-abbrev pub after_hour : Half → ℕ → List ℕ → Option ℕ
-after_hour p h r = cond (two_digits r 0) (after_minutes p h (two_at r 0) (drop 2 r)) none
+abbrev pub after_hour : Option Half → ℕ → List ℕ → Option ℕ
+after_hour p h r = cond (two_digits r 0) (after_minutes p h (two_at r 0) (drop 2 r)) None
 
 -- one hour digit and a colon, or two and a colon
-abbrev pub from_hour : Half → List ℕ → Option ℕ
+abbrev pub from_hour : Option Half → List ℕ → Option ℕ
 from_hour p t =
     cond (is_digit (get_or t 0 0) && eqb (get_or t 1 0) 0x3A) (after_hour p (worth (get_or t 0 0)) (drop 2 t))
-    (cond (two_digits t 0 && eqb (get_or t 2 0) 0x3A) (after_hour p (two_at t 0) (drop 3 t)) none)
+    (cond (two_digits t 0 && eqb (get_or t 2 0) 0x3A) (after_hour p (two_at t 0) (drop 3 t)) None)
 
 -- nanoseconds since midnight, if the text is a time
 unfoldable pub time_of_day : List ℕ → Option ℕ
@@ -70,8 +68,8 @@ time_of_day t = from_hour (half t) (body (half t) t)
 
 -- 7: the text is no time
 abbrev pub on_time : Option ℕ → Outcome ℤ
-on_time none = refused 7
-on_time (some n) = accepted (pos n)
+on_time None = refused 7
+on_time (Some n) = accepted (pos n)
 
 abbrev pub time_nanos : List ℕ → Outcome ℤ
 time_nanos t = in_utf8 t (on_time (time_of_day t))

@@ -2,7 +2,7 @@
 use mathlib.Core.Path.{◌≡◌, refl}
 use mathlib.Core.Bool.{true}
 use mathlib.Core.List.{List}
-use mathlib.Core.Option.{none, some}
+use Rattle.std.specs.Prelude.{None, Some}
 use Prim.Native.Nat.{ℕ}
 use lib.IntN.{ℤ, pos}
 use lib.Signed.{quot_z}
@@ -27,8 +27,8 @@ module _ (k bits : ℕ) (t : List ℕ) where
   pub no_time : {n : ℕ} {o : Outcome ℤ} → refused n ≡ time_nanos t → o ≡ rest → o ≡ time_column k bits t
   no_time e q = rw (← e) q
 
-  pub an_integer : {w : Width} {z : ℤ} → SFits w z → some z ≡ integer true bits t → accepted (rd w z) ≡ rest
+  pub an_integer : {w : Width} {z : ℤ} → SFits w z → Some z ≡ integer true bits t → accepted (rd w z) ≡ rest
   an_integer f e = rw (← e) (back f refl)
 
-  pub no_integer : {o : Outcome ℤ} → none ≡ integer true bits t → o ≡ divided k (time_nanos (trimmed t)) → o ≡ rest
+  pub no_integer : {o : Outcome ℤ} → None ≡ integer true bits t → o ≡ divided k (time_nanos (trimmed t)) → o ≡ rest
   no_integer e q = rw (← e) q

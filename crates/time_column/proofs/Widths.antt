@@ -2,7 +2,7 @@
 use mathlib.Core.Path.{◌≡◌, refl, sym, ◌∙◌}
 use mathlib.Core.Bool.{true}
 use mathlib.Core.List.{List}
-use mathlib.Core.Option.{Option, none, some}
+use Rattle.std.specs.Prelude.{Option, None, Some}
 use Prim.Native.Nat.{ℕ, ◌-◌, ◌*◌, ◌/◌, ◌≤◌, ◌<◌, ◌^◌}
 use native.Mathlib.Omega.{arith}
 use native.Mathlib.Nat.{div-lt_iff_lt-mul}
@@ -41,8 +41,8 @@ module _ (k bits : ℕ) (some_unit : 1 ≤ k) (room : 86401000000000 < 2 ^ (bits
       by (refused n) e z q = clash q
 
   kept : (o : Option ℤ) → Fits bits (on_integer (keep (in_type true bits) o))
-  kept none = λ z q. clash q
-  kept (some x) = λ z. by_test (in_type true bits x)
+  kept None = λ z q. clash q
+  kept (Some x) = λ z. by_test (in_type true bits x)
       (λ e. rw e (λ q. let w : x ≡ z = cc in rw (← w) e))
       (λ e. rw e (λ q. clash q))
 

@@ -1,7 +1,6 @@
 -- What a time column reads (document 01, "Time of day"): a time, of the text as given and then trimmed, in the column's unit, and between
 -- the two attempts an integer. Assumes nothing.
-use Rattle.std.specs.Prelude.{true, List, ℕ, ℤ}
-use Rattle.std.proofs.Math.Option.{Option, none, some}
+use Rattle.std.specs.Prelude.{true, List, ℕ, ℤ, Option, None, Some}
 use Rattle.number.specs.Decimal.{integer}
 use Rattle.refusal.specs.Attempts.{or_else, divided}
 use Rattle.refusal.specs.Outcome.{Outcome, accepted, refused}
@@ -10,8 +9,8 @@ use Rattle.time.specs.Answer.{time_nanos}
 
 -- 7: the text is no integer of the column's width either
 abbrev pub on_integer : Option ℤ → Outcome ℤ
-on_integer none = refused 7
-on_integer (some z) = accepted z
+on_integer None = refused 7
+on_integer (Some z) = accepted z
 
 -- an integer of the column's width, undivided
 abbrev pub as_integer : ℕ → List ℕ → Outcome ℤ

@@ -2,7 +2,8 @@
 -- fraction's factor and divisor, and a count is exact or does not fit. Assumes nothing.
 use mathlib.Core.Path.{◌≡◌, refl, sym, ap, ◌∙◌}
 use mathlib.Core.Bool.{true, false}
-use mathlib.Core.Option.{Option, none, some, none-ne-some}
+use Rattle.std.specs.Prelude.{Option, None, Some}
+use Rattle.std.proofs.lemmas.Option.{none-some}
 use Prim.Native.Nat.{ℕ, suc, ◌+◌, ◌*◌, ◌/◌, ◌^◌, ◌≤◌, ◌<◌}
 use native.Mathlib.Nat.{mul-le-mul, mul-le-mul_left, mul-le-mul_right, div-lt_iff_lt-mul, div-le_self}
 use native.Mathlib.Omega.{arith}
@@ -131,7 +132,7 @@ module _ (x : IntervalAmount) (F : SFits w64 x.integer) (b : nat_abs x.frac < 10
     pub cut_days : pos 0 *ℤ pos 1 +ℤ rd w64 r ≡ frac_times precision k (value_of x)
     cut_days = none_add (rd w64 r) ∙ part_times
 
-    pub cut_fits : some (rd w64 r) ≡ fit 63 (frac_times precision k (value_of x))
+    pub cut_fits : Some (rd w64 r) ≡ fit 63 (frac_times precision k (value_of x))
     cut_fits =
         let f = part_fits x.frac b a c h R in
         fit_yes f ∙ ap (fit 63) (sym (to_z-of_z f) ∙ part_times)
@@ -142,7 +143,7 @@ module _ (x : IntervalAmount) (F : SFits w64 x.integer) (b : nat_abs x.frac < 10
   no_part =
       abs_zero (quot_z (x.frac *ℤ pos 1) (pos (10 ^ precision))) (omega (arith, abs_quot (x.frac *ℤ pos 1) (10 ^ precision), abs_mul x.frac 1))
 
-  pub whole_fits_lem : SameSign x.integer x.frac → some (rd w64 x.integer) ≡ fit 63 (times precision 1 (value_of x))
+  pub whole_fits_lem : SameSign x.integer x.frac → Some (rd w64 x.integer) ≡ fit 63 (times precision 1 (value_of x))
   unfolding whole_times
   whole_fits_lem S =
       let e : times precision 1 (value_of x) ≡ x.integer = times_cut precision 1 (value_of x) S ∙ rw no_part (add_none (x.integer *ℤ pos 1) ∙ times_one x.integer) in
@@ -167,32 +168,32 @@ module _ (x y z : ℤ) where
 
 module _ (c k : Counts) where
   -- the contribution k fits, as m
-  pub adds : {m : Counts} → some m ≡ fitting k → fitting (plus c m) ≡ added c k
+  pub adds : {m : Counts} → Some m ≡ fitting k → fitting (plus c m) ≡ added c k
   unfolding fitting added
   adds {m} e =
       by_test (fits k)
-      (λ f. let q : some m ≡ some k = e ∙ rw f in let r : m ≡ k = cc in rw (r, f))
-      (λ f. absurd (none-ne-some m (sym (e ∙ rw f))))
+      (λ f. let q : Some m ≡ Some k = e ∙ rw f in let r : m ≡ k = cc in rw (r, f))
+      (λ f. absurd (none-some m (sym (e ∙ rw f))))
 
   -- or it does not
-  pub over : none ≡ fitting k → none ≡ added c k
+  pub over : None ≡ fitting k → None ≡ added c k
   unfolding fitting added
   over e =
       by_test (fits k)
-      (λ f. absurd (none-ne-some k (e ∙ rw f)))
+      (λ f. absurd (none-some k (e ∙ rw f)))
       (λ f. rw f)
 
 -- ---- a count of 32 bits: x times k, and p
 
 module _ {x p : ℤ} {k : ℕ} (fx : SFits w64 x) (fp : SFits w64 p) (K : 1 ≤ k) (M : k ≤ 1200) (b : nat_abs p ≤ 1200) where
-  pub count_below : lt_z (rd w64 x) (negsuc 4294967295) ≡ true → none ≡ fit 31 (x *ℤ pos k +ℤ p)
+  pub count_below : lt_z (rd w64 x) (negsuc 4294967295) ≡ true → None ≡ fit 31 (x *ℤ pos k +ℤ p)
   count_below =
       rw (to_z-of_z fx) (λ t.
       let l = lt_yes x (negsuc 4294967295) t in
       let m : (P x + 4294967297) * k ≤ N x * k = mul-le-mul_right k (omega arith) in
       fit_below w32 (x *ℤ pos k +ℤ p) (omega (arith, add_pn (x *ℤ pos k) p, mul_p x k, mul_n x k, size_pn p)))
 
-  pub count_above : lt_z (pos 4294967296) (rd w64 x) ≡ true → none ≡ fit 31 (x *ℤ pos k +ℤ p)
+  pub count_above : lt_z (pos 4294967296) (rd w64 x) ≡ true → None ≡ fit 31 (x *ℤ pos k +ℤ p)
   count_above =
       rw (to_z-of_z fx) (λ t.
       let l = lt_yes (pos 4294967296) x t in
@@ -231,13 +232,13 @@ module _ {x p : ℤ} {k most : ℕ} (fx : SFits w64 x) (fp : SFits w64 p) (M : M
   limit = to_z_pos w64 {n = most} (omega (arith, M.most_fits))
 
   -- x is beyond the largest
-  far : most < nat_abs x → none ≡ fit 63 (x *ℤ pos k +ℤ p)
+  far : most < nat_abs x → None ≡ fit 63 (x *ℤ pos k +ℤ p)
   far h =
       let m = S.whole in
       let g : (most + 1) * k ≤ m * k = mul-le-mul_right k (omega (arith, ap nat_abs S.whole_is, abs_signed S.neg m)) in
       rw (S.whole_is, S.part_is, mul_signed S.neg m k, add_signed S.neg (m * k) S.part) (too_large w64 (m * k + S.part) S.neg (omega (arith, M.largest)))
 
-  pub far_above : lt_z (to_z w64 most) (rd w64 x) ≡ true → none ≡ fit 63 (x *ℤ pos k +ℤ p)
+  pub far_above : lt_z (to_z w64 most) (rd w64 x) ≡ true → None ≡ fit 63 (x *ℤ pos k +ℤ p)
   far_above t =
       let u : lt_z (pos most) x ≡ true = rw (limit, to_z-of_z fx) at t in
       far (omega (arith, lt_yes (pos most) x u, size_pn x))
@@ -245,7 +246,7 @@ module _ {x p : ℤ} {k most : ℕ} (fx : SFits w64 x) (fp : SFits w64 p) (M : M
   pub limit_flips : SFits w64 (pos 0 -ℤ to_z w64 most)
   limit_flips = size_flips most M.most_fits
 
-  pub far_below : lt_z (rd w64 x) (rd w64 (pos 0 -ℤ to_z w64 most)) ≡ true → none ≡ fit 63 (x *ℤ pos k +ℤ p)
+  pub far_below : lt_z (rd w64 x) (rd w64 (pos 0 -ℤ to_z w64 most)) ≡ true → None ≡ fit 63 (x *ℤ pos k +ℤ p)
   far_below t =
       let u : lt_z x (neg_ℤ (pos most)) ≡ true = rw (to_z-of_z fx, size_minus most M.most_fits) at t in
       far (omega (arith, lt_yes x (neg_ℤ (pos most)) u, P-neg (pos most), N-neg (pos most), size_pn x))

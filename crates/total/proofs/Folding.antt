@@ -3,7 +3,7 @@
 use mathlib.Core.Path.{◌≡◌, refl, sym, ◌∙◌}
 use mathlib.Core.Bool.{Bool, true, false, cond, ◌||◌}
 use mathlib.Core.List.{List}
-use mathlib.Core.Option.{Option, none, some}
+use Rattle.std.specs.Prelude.{Option, None, Some}
 use Prim.Native.Nat.{ℕ, ◌+◌, ◌-◌, ◌^◌, ◌<◌}
 use native.Mathlib.Omega.{arith}
 use lib.Dec.{eqb}
@@ -86,11 +86,11 @@ Places s u at seen repeated total unfit =
     first_of precision u (pairs_from 0 s) ≡ ahead precision u (seen_in seen) repeated total unfit (pairs_from at (drop at s))
 
 -- with one component more, a unit has come again where it had, or where this one's was seen
-pub came_or : (r : Option ℕ) (again : Bool) (at : ℕ) → came (or_later r (cond again (some at) none)) ≡ came r || again
+pub came_or : (r : Option ℕ) (again : Bool) (at : ℕ) → came (or_later r (cond again (Some at) None)) ≡ came r || again
 unfolding came or_later
-came_or none true at = refl
-came_or none false at = refl
-came_or (some p) again at = refl
+came_or None true at = refl
+came_or None false at = refl
+came_or (Some p) again at = refl
 
 -- a fraction is read back
 reads_frac : (a : IntervalAmount) → nat_abs a.frac < 10 ^ precision → rd w64 a.frac ≡ a.frac
@@ -110,27 +110,27 @@ counted u a v F c w H e =
 -- what the code adds is what the definition adds
 added_is : (u : IntervalUnit) (o : Option Counts) (c : Component) → on_added o (gives precision u c) ≡ add_to precision u o c
 unfolding on_added added add_to
-added_is u none c = refl
-added_is u (some k) c = refl
+added_is u None c = refl
+added_is u (Some k) c = refl
 
 -- the answer at a last component is no number below 9
 from_nine : {k : ℕ} (b : Bool) (o : Option Counts) → k < 9 → cond b (refused 9) (on_totals o) ≡ refused k → ⊥
 unfolding on_totals
 from_nine {k} true o h e = let z : ◌≡◌ {A = ℕ} 9 k = cc in omega arith
-from_nine {k} false none h e = let z : ◌≡◌ {A = ℕ} 10 k = cc in omega arith
-from_nine false (some c) h e = let z : ◌≡◌ {A = ℕ} 0 1 = cc in omega arith
+from_nine {k} false None h e = let z : ◌≡◌ {A = ℕ} 10 k = cc in omega arith
+from_nine false (Some c) h e = let z : ◌≡◌ {A = ℕ} 0 1 = cc in omega arith
 
 module _ (s : List ℕ) (u : IntervalUnit) where
-  pub starts : Goes s u 0 (replicate 12 false) false (some zeros)
+  pub starts : Goes s u 0 (replicate 12 false) false (Some zeros)
   starts =
       settle_start precision u (divide precision s) ∙
-      settle_same precision u unseen (seen_in (replicate 12 false)) none_marked false (some zeros) (divide precision s)
+      settle_same precision u unseen (seen_in (replicate 12 false)) none_marked false (Some zeros) (divide precision s)
 
-  pub starts_place : Places s u 0 (replicate 12 false) none (some zeros) none
+  pub starts_place : Places s u 0 (replicate 12 false) None (Some zeros) None
   unfolding none_seen unseen
   starts_place =
       ahead_start precision u (pairs_from 0 s) ∙
-      ahead_same precision u none_seen (seen_in (replicate 12 false)) (λ v. none_marked v) none (some zeros) none (pairs_from 0 s)
+      ahead_same precision u none_seen (seen_in (replicate 12 false)) (λ v. none_marked v) None (Some zeros) None (pairs_from 0 s)
 
   -- where the text is UTF-8, or is not
   place_in : utf8 s ≡ true → place precision u s ≡ first_of precision u (pairs_from 0 s)
@@ -174,16 +174,16 @@ module _ (s : List ℕ) (u : IntervalUnit) where
           let p : at + (x - at) ≡ x = omega (arith, M.further) in
           let d : divide precision (drop at s) ≡ before c (divide precision (drop x s)) = rw p at (at_more precision s at M.stepped).divided in
           G ∙
-          rw (d, settle_more precision u (seen_in seen) repeated total c (divide precision (drop x s)), e, K, totals_are c (some v) M.holds e)
+          rw (d, settle_more precision u (seen_in seen) repeated total c (divide precision (drop x s)), e, K, totals_are c (Some v) M.holds e)
           (settle_same precision u (mark (seen_in seen) v) (seen_in (set seen (rank v) true)) (one_marked seen h v) (repeated || get_or seen (rank v) false) (add_to precision u total c) (divide precision (drop x s)))
 
   -- the same of places, where a unit first came again at `repeated` and the totals first did not fit at `unfit`
   module _ (at : ℕ) (seen : List Bool) (repeated : Option ℕ) (total : Option Counts) (unfit : Option ℕ) (P : Places s u at seen repeated total unfit) where
     -- no component: the first bad piece
-    pub bad_place : step precision (drop at s) ≡ bad → {p : ℕ} → p ≡ at + fault precision (drop at s) → {o : Option ℕ} → o ≡ cond (utf8 s) (some p) none → o ≡ place precision u s
+    pub bad_place : step precision (drop at s) ≡ bad → {p : ℕ} → p ≡ at + fault precision (drop at s) → {o : Option ℕ} → o ≡ cond (utf8 s) (Some p) None → o ≡ place precision u s
     unfolding place
     bad_place e {p} h o =
-        let f : first_of precision u (pairs_from 0 s) ≡ some p = P ∙ ahead_bad precision u (seen_in seen) repeated total unfit (pairs_from at (drop at s)) (rw h (on_bad precision at (drop at s) e)) in
+        let f : first_of precision u (pairs_from 0 s) ≡ Some p = P ∙ ahead_bad precision u (seen_in seen) repeated total unfit (pairs_from at (drop at s)) (rw h (on_bad precision at (drop at s) e)) in
         o ∙ rw f
 
     module _ (a : IntervalAmount) (v : IntervalUnit) {k : ℕ} (K : k ≡ rank v) (F : SFits w64 a.integer) where
@@ -193,27 +193,27 @@ module _ (s : List ℕ) (u : IntervalUnit) where
 
       -- the pairs behind a component c, which are d
       next_place : (c : Component) (w : Option IntervalUnit) → Holds precision c a w → unit_for u c ≡ v → {d : List Pair} → Next precision at (drop at s) c d
-          → first_of precision u (pairs_from 0 s) ≡ ahead precision u (seen_with (seen_in seen) v) (or_later repeated (cond (get_or seen k false) (some at) none)) (on_added total more) (or_later unfit (unfit_with total more at)) d
+          → first_of precision u (pairs_from 0 s) ≡ ahead precision u (seen_with (seen_in seen) v) (or_later repeated (cond (get_or seen k false) (Some at) None)) (on_added total more) (or_later unfit (unfit_with total more at)) d
       next_place c w H e {d} N =
           P ∙
           rw (N.are, ahead_next precision u N.both N.component_is (seen_in seen) repeated total unfit d, counted u a v F c w H e, added_is u total c, e, K)
 
-      pub last_place : {w : Option IntervalUnit} → LastIs precision s at a w → v ≡ or_else u w → utf8 s ≡ true → {o r x : Option ℕ} → r ≡ or_later repeated (cond (get_or seen k false) (some at) none) → x ≡ or_later unfit (unfit_with total more at) → o ≡ or_later r x → o ≡ place precision u s
+      pub last_place : {w : Option IntervalUnit} → LastIs precision s at a w → v ≡ or_else u w → utf8 s ≡ true → {o r x : Option ℕ} → r ≡ or_later repeated (cond (get_or seen k false) (Some at) None) → x ≡ or_later unfit (unfit_with total more at) → o ≡ or_later r x → o ≡ place precision u s
       last_place {w} L i U R X O =
           let c = L.this in
           let e : unit_for u c ≡ v = L.holds.unit_is u ∙ sym i in
           O ∙
           rw (R, X)
           (sym (place_in U ∙ next_place c w L.holds e (on_stop precision at (drop at s) L.stepped) ∙
-          ahead_end precision u (seen_with (seen_in seen) v) (or_later repeated (cond (get_or seen k false) (some at) none)) (on_added total more) (or_later unfit (unfit_with total more at))))
+          ahead_end precision u (seen_with (seen_in seen) v) (or_later repeated (cond (get_or seen k false) (Some at) None)) (on_added total more) (or_later unfit (unfit_with total more at))))
 
-      pub more_place : length seen ≡ 12 → {x : ℕ} → MoreIs precision s at a v x → {r y : Option ℕ} {t : Option Counts} → r ≡ or_later repeated (cond (get_or seen k false) (some at) none) → t ≡ on_added total more → y ≡ or_later unfit (unfit_with total more at) → Places s u x (set seen k true) r t y
+      pub more_place : length seen ≡ 12 → {x : ℕ} → MoreIs precision s at a v x → {r y : Option ℕ} {t : Option Counts} → r ≡ or_later repeated (cond (get_or seen k false) (Some at) None) → t ≡ on_added total more → y ≡ or_later unfit (unfit_with total more at) → Places s u x (set seen k true) r t y
       unfolding or_else seen_with mark
       more_place h {x} M {r} {y} {t} R T Y =
           let c = M.this in
           let e : unit_for u c ≡ v = M.holds.unit_is u in
           let q : at + (x - at) ≡ x = omega (arith, M.further) in
           let N : Next precision at (drop at s) c (pairs_from x (drop x s)) = rw (q, drop-drop (x - at) at s, q) at (on_go precision at (drop at s) M.stepped) in
-          next_place c (some v) M.holds e N ∙
+          next_place c (Some v) M.holds e N ∙
           rw (R, T, Y)
-          (ahead_same precision u (seen_with (seen_in seen) v) (seen_in (set seen k true)) (rw K (one_marked seen h v)) (or_later repeated (cond (get_or seen k false) (some at) none)) (on_added total more) (or_later unfit (unfit_with total more at)) (pairs_from x (drop x s)))
+          (ahead_same precision u (seen_with (seen_in seen) v) (seen_in (set seen k true)) (rw K (one_marked seen h v)) (or_later repeated (cond (get_or seen k false) (Some at) None)) (on_added total more) (or_later unfit (unfit_with total more at)) (pairs_from x (drop x s)))

@@ -1,6 +1,5 @@
 -- What the functions behind the reader find on the way: its contract names none of it. Assumes nothing.
-use Rattle.std.specs.Prelude.{◌≡◌, Bool, true, false, cond, ◌&&◌, ℕ, ◌+◌, ◌*◌, ◌^◌, ◌≤◌, ◌<◌, ℤ, nat_abs}
-use Rattle.std.proofs.Math.Option.{Option, none, some}
+use Rattle.std.specs.Prelude.{◌≡◌, Bool, true, false, cond, ◌&&◌, ℕ, ◌+◌, ◌*◌, ◌^◌, ◌≤◌, ◌<◌, ℤ, nat_abs, Option, None, Some}
 use Rattle.amount.specs.Grammar.{precision}
 use Rattle.amount.specs.Read.{SameSign}
 use Rattle.rule.specs.Contribution.{Counts, counts, fits, plus}
@@ -14,28 +13,28 @@ use Rattle.total.specs.declared.components.Repeated.TheVariants.{No as NotAgain,
 
 -- the counts that fit, or none
 abbrev pub sum_of : Sum → Option Counts
-sum_of (Fits i) = some (counts_of i)
-sum_of Over = none
+sum_of (Fits i) = Some (counts_of i)
+sum_of Over = None
 
 -- the running totals that fit, or none
 abbrev pub totals_of : Totals → Option Counts
-totals_of (Fit i) = some (counts_of i)
-totals_of (OverAt p) = none
+totals_of (Fit i) = Some (counts_of i)
+totals_of (OverAt p) = None
 
 -- where they first did not
 abbrev pub unfit_of : Totals → Option ℕ
-unfit_of (Fit i) = none
-unfit_of (OverAt p) = some p
+unfit_of (Fit i) = None
+unfit_of (OverAt p) = Some p
 
 -- where a unit first came again
 abbrev pub repeat_of : Repeated → Option ℕ
-repeat_of NotAgain = none
-repeat_of (AgainAt p) = some p
+repeat_of NotAgain = None
+repeat_of (AgainAt p) = Some p
 
 -- there is such a place
 unfoldable pub came : Option ℕ → Bool
-came none = false
-came (some p) = true
+came None = false
+came (Some p) = true
 
 -- most is the largest number that times k fits 64 signed bits, and no multiple of k is 2^63
 pub record Most (k most : ℕ) : Type 0 where
@@ -58,25 +57,25 @@ pub record Ratio (k a c : ℕ) : Type 0 where
 
 -- three counts, if there are three
 unfoldable pub together : Option ℤ → Option ℤ → Option ℤ → Option Counts
-together none d n = none
-together (some m) none n = none
-together (some m) (some d) none = none
-together (some m) (some d) (some n) = some (counts m d n)
+together None d n = None
+together (Some m) None n = None
+together (Some m) (Some d) None = None
+together (Some m) (Some d) (Some n) = Some (counts m d n)
 
 -- counts, where they fit
 unfoldable pub fitting : Counts → Option Counts
-fitting c = cond (fits c) (some c) none
+fitting c = cond (fits c) (Some c) None
 
 -- the totals c with a contribution k, where it fits and they do
 unfoldable pub added : Counts → Counts → Option Counts
-added c k = cond (fits k && fits (plus c k)) (some (plus c k)) none
+added c k = cond (fits k && fits (plus c k)) (Some (plus c k)) None
 
 -- the same from totals that may not have fitted
 unfoldable pub on_added : Option Counts → Counts → Option Counts
-on_added none k = none
-on_added (some c) k = added c k
+on_added None k = None
+on_added (Some c) k = added c k
 
 -- the place at, where the totals with a contribution k no longer fit
 unfoldable pub unfit_with : Option Counts → Counts → ℕ → Option ℕ
-unfit_with none k at = none
-unfit_with (some c) k at = cond (fits k && fits (plus c k)) none (some at)
+unfit_with None k at = None
+unfit_with (Some c) k at = cond (fits k && fits (plus c k)) None (Some at)

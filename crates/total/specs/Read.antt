@@ -1,6 +1,5 @@
 -- What the answer of `Interval::parse` says. Assumes nothing.
-use Rattle.std.proofs.Math.Option.{Option, none}
-use Rattle.std.specs.Prelude.{ℕ}
+use Rattle.std.specs.Prelude.{Option, None, ℕ}
 use Rattle.refusal.specs.Outcome.{Outcome, accepted}
 use Rattle.place.specs.Read.{place_in, because_of}
 use Rattle.rule.specs.Contribution.{Counts, counts}
@@ -19,5 +18,5 @@ interval_outcome (IntervalRefused why) = because_of why
 
 -- the place of a refusal, if it has one
 abbrev pub place_read : IntervalRead → Option ℕ
-place_read (IntervalValue i) = none
+place_read (IntervalValue i) = None
 place_read (IntervalRefused why) = place_in why

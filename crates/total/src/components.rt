@@ -1,6 +1,5 @@
 // The components of a text, added up as they are read: Rust's `parse_interval_components` and the fold of `Interval::parse`, in one pass.
-ghost use Rattle.std.specs.Prelude.{◌≡◌, cond};
-ghost use Rattle.std.proofs.Math.Option.{none, some};
+ghost use Rattle.std.specs.Prelude.{◌≡◌, cond, None, Some};
 ghost use Rattle.refusal.specs.Outcome.{refused};
 ghost use Rattle.amount.specs.Grammar.{precision, valued};
 ghost use Rattle.rule.specs.Contribution.{contribution};
@@ -33,7 +32,7 @@ pub enum Totals {
 impl Repeated {
     // With one component more, which begins at a place.
     pub fn or(self, again: bool, at: usize) -> Repeated
-        ensures { repeat_of result ≡ or_later (repeat_of self) (cond again (some at) none) }
+        ensures { repeat_of result ≡ or_later (repeat_of self) (cond again (Some at) None) }
     {
         match self {
             Repeated::No => {

@@ -3,7 +3,7 @@ use mathlib.Core.Path.{◌≡◌, refl, sym, ap, ◌∙◌}
 use mathlib.Core.Bool.{Bool, true, false, ◌&&◌, false≢true}
 use mathlib.Core.Logic.{inl, inr}
 use mathlib.Core.List.{List, [], ◌∷◌, ◌++◌, append-nil}
-use mathlib.Core.Option.{Option, none, some}
+use Rattle.std.specs.Prelude.{Option, None, Some}
 use Prim.Native.Nat.{ℕ, zero, suc, ◌+◌, ◌-◌, ◌*◌, ◌/◌, ◌%◌, ◌≤◌, ◌<◌}
 use Prim.Native.String.{String}
 use native.Mathlib.Nat.{add-zero}
@@ -124,10 +124,10 @@ small_row w (row u l ∷ rows) f e =
 
 -- ---- the unit of a word
 
-not_present : (o : Option IntervalUnit) → (present o ≡ true → ⊥) → o ≡ none
+not_present : (o : Option IntervalUnit) → (present o ≡ true → ⊥) → o ≡ None
 unfolding present
-not_present none f = refl
-not_present (some u) f = absurd (f refl)
+not_present None f = refl
+not_present (Some u) f = absurd (f refl)
 
 module _ (w : List ℕ) where
   -- a word of letters has the unit of its key
@@ -136,12 +136,12 @@ module _ (w : List ℕ) where
   unit_by_key h = sym (row_by_key (lower w) h spellings spellings_fine)
 
   -- another word has none
-  pub not_lowered : lowered (lower w) ≡ false → unit_of w ≡ none
+  pub not_lowered : lowered (lower w) ≡ false → unit_of w ≡ None
   unfolding is_unit
   not_lowered h = not_present (unit_of w) (λ e. both_ways (lowered (lower w)) h (unit_lowered w e))
 
   -- nor has one with a large key
-  pub too_large : 1152921504606846976 ≤ key_on 0 (lower w) → unit_of w ≡ none
+  pub too_large : 1152921504606846976 ≤ key_on 0 (lower w) → unit_of w ≡ None
   unfolding unit_of
   too_large h = not_present (find spellings (lower w)) (λ e. absurd (omega (arith, small_row (lower w) spellings spellings_fine e)))
 
@@ -158,20 +158,20 @@ keys_at (row u l ∷ rows) zero = keys_of l
 keys_at (row u l ∷ rows) (suc n) = keys_at rows n
 
 unfoldable pub is_that : IntervalUnit → Option IntervalUnit → Bool
-is_that u none = false
-is_that u (some v) = eqb (rank u) (rank v)
+is_that u None = false
+is_that u (Some v) = eqb (rank u) (rank v)
 
 -- each key has the unit u
 unfoldable pub all_give : IntervalUnit → List ℕ → Bool
 all_give u [] = true
 all_give u (k ∷ l) = is_that u (by_key k spellings) && all_give u l
 
-that_is : (u : IntervalUnit) (o : Option IntervalUnit) → is_that u o ≡ true → some u ≡ o
+that_is : (u : IntervalUnit) (o : Option IntervalUnit) → is_that u o ≡ true → Some u ≡ o
 unfolding is_that
-that_is u none e = absurd (false≢true e)
-that_is u (some v) e = ap some (same_unit u v e)
+that_is u None e = absurd (false≢true e)
+that_is u (Some v) e = ap Some (same_unit u v e)
 
-gives_it : (u : IntervalUnit) (l : List ℕ) → all_give u l ≡ true → (k : ℕ) → OneOf l k → some u ≡ by_key k spellings
+gives_it : (u : IntervalUnit) (l : List ℕ) → all_give u l ≡ true → (k : ℕ) → OneOf l k → Some u ≡ by_key k spellings
 unfolding all_give
 gives_it u [] g k o = absurd o
 gives_it u (x ∷ []) g k o = rw o (that_is u (by_key x spellings) (and_left (is_that u (by_key x spellings)) true g))
@@ -179,7 +179,7 @@ gives_it u (x ∷ y ∷ l) g k (inl e) = rw e (that_is u (by_key x spellings) (a
 gives_it u (x ∷ y ∷ l) g k (inr o) = gives_it u (y ∷ l) (and_right (is_that u (by_key x spellings)) (all_give u (y ∷ l)) g) k o
 
 -- a key of the n-th row
-pub by_row : (n : ℕ) (u : IntervalUnit) (k : ℕ) → all_give u (keys_at spellings n) ≡ true → OneOf (keys_at spellings n) k → some u ≡ by_key k spellings
+pub by_row : (n : ℕ) (u : IntervalUnit) (k : ℕ) → all_give u (keys_at spellings n) ≡ true → OneOf (keys_at spellings n) k → Some u ≡ by_key k spellings
 by_row n u k g o = gives_it u (keys_at spellings n) g k o
 
 -- T, and the key k is of none of the rows
@@ -200,7 +200,7 @@ in_one (s ∷ []) k e =
 in_one (s ∷ t ∷ l) k e =
     by_test (eqb k (key_of s)) (λ p. inl (eqb-true k (key_of s) p)) (λ p. inr (in_one (t ∷ l) k (rw p at e)))
 
-no_key : (T : Type 0) (k : ℕ) (rows : List Row) → NoneOf T k rows → none ≡ by_key k rows
+no_key : (T : Type 0) (k : ℕ) (rows : List Row) → NoneOf T k rows → None ≡ by_key k rows
 unfolding NoneOf by_key
 no_key T k [] h = refl
 no_key T k (row u l ∷ rows) h =
@@ -209,5 +209,5 @@ no_key T k (row u l ∷ rows) h =
     (λ p. rw p (no_key (T × (OneOf (keys_of l) k → ⊥)) k rows h))
 
 -- a key of none of them
-pub by_none : (k : ℕ) → NoneOf Unit k spellings → none ≡ by_key k spellings
+pub by_none : (k : ℕ) → NoneOf Unit k spellings → None ≡ by_key k spellings
 by_none k h = no_key Unit k spellings h

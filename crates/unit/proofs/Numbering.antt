@@ -4,7 +4,7 @@ use mathlib.Core.Path.{◌≡◌, refl, sym, ap, ◌∙◌}
 use mathlib.Core.Bool.{true}
 use mathlib.Core.Logic.{◌↔◌}
 use mathlib.Core.List.{List, [], ◌∷◌}
-use mathlib.Core.Option.{none, some, none-ne-some}
+use Rattle.std.specs.Prelude.{None, Some}
 use Prim.Native.Nat.{ℕ, zero, suc, ◌+◌, ◌≤◌}
 use native.Mathlib.Omega.{arith}
 use lib.Dec.{eqb}
@@ -14,13 +14,13 @@ use Rattle.unit.specs.Units.{rank, units, place, unit_numbered}
 use Rattle.unit.specs.declared.IntervalUnit.{IntervalUnit}
 use Rattle.unit.specs.declared.IntervalUnit.TheVariants.{Century, Decade, Year, Month, Week, Day, Hour, Minute, Second, Millisecond, Microsecond, Nanosecond}
 
-pub past : (l : List IntervalUnit) (n : ℕ) → length l ≤ n → none ≡ place l n
+pub past : (l : List IntervalUnit) (n : ℕ) → length l ≤ n → None ≡ place l n
 unfolding place
 past [] n h = refl
 past (u ∷ l) zero h = absurd (omega (arith, h))
 past (u ∷ l) (suc n) h = past l n (omega (arith, h))
 
-at_rank : (u : IntervalUnit) → unit_numbered (rank u) ≡ some u
+at_rank : (u : IntervalUnit) → unit_numbered (rank u) ≡ Some u
 unfolding rank place
 at_rank Century = refl
 at_rank Decade = refl
@@ -35,7 +35,7 @@ at_rank Millisecond = refl
 at_rank Microsecond = refl
 at_rank Nanosecond = refl
 
-some_is : {u v : IntervalUnit} → some u ≡ some v → u ≡ v
+some_is : {u v : IntervalUnit} → Some u ≡ Some v → u ≡ v
 some_is e = cc
 
 -- the ranks of a list run on from k
@@ -47,14 +47,14 @@ units_ranked : Ranked 0 units
 unfolding Ranked rank
 units_ranked = (refl, (refl, (refl, (refl, (refl, (refl, (refl, (refl, (refl, (refl, (refl, (refl, tt))))))))))))
 
-rank_at : (k : ℕ) (l : List IntervalUnit) → Ranked k l → (n : ℕ) {u : IntervalUnit} → place l n ≡ some u → rank u ≡ k + n
+rank_at : (k : ℕ) (l : List IntervalUnit) → Ranked k l → (n : ℕ) {u : IntervalUnit} → place l n ≡ Some u → rank u ≡ k + n
 unfolding Ranked place
-rank_at k [] R n {u} e = absurd (none-ne-some u e)
+rank_at k [] R n {u} e = cc
 rank_at k (v ∷ l) R zero e = rw (← some_is e) (omega (arith, R.0))
 rank_at k (v ∷ l) R (suc n) e = omega (arith, rank_at (suc k) l R.1 n e)
 
 -- a unit's number and the unit that a number names undo each other
-pub undo : (n : ℕ) (u : IntervalUnit) → (unit_numbered n ≡ some u) ↔ (rank u ≡ n)
+pub undo : (n : ℕ) (u : IntervalUnit) → (unit_numbered n ≡ Some u) ↔ (rank u ≡ n)
 undo n u = (λ e. omega (arith, rank_at 0 units units_ranked n e), λ e. rw (← e) (at_rank u))
 
 pub same_unit : (u v : IntervalUnit) → eqb (rank u) (rank v) ≡ true → u ≡ v

@@ -1,19 +1,19 @@
 -- The letters of a unit word as a loop packs them: one letter more, and where no longer word is a unit. Assumes nothing.
-use mathlib.Core.Path.{◌≡◌, refl, sym, ap, ◌∙◌}
-use mathlib.Core.Bool.{true, false, ◌&&◌, false≢true}
+use mathlib.Core.Path.{◌≡◌, refl, sym, ◌∙◌}
+use mathlib.Core.Bool.{true, false, false≢true}
 use mathlib.Core.List.{List, [], ◌∷◌, ◌++◌, append_assoc, append-nil}
-use mathlib.Core.Option.{none}
+use Rattle.std.specs.Prelude.{None, Some}
 use Prim.Native.Nat.{ℕ, suc, zero, ◌+◌, ◌-◌, ◌*◌, ◌≤◌, ◌<◌}
-use native.Mathlib.Nat.{add-zero, sub-zero}
+use native.Mathlib.Nat.{sub-zero}
 use native.Mathlib.Omega.{arith}
 use lib.Dec.{eqb}
 use lib.ListN.{length, get_or, take, drop, length-drop, take-append-drop}
-use lib.Seq.{get_or-drop, drop-drop, take-add, take_all}
+use lib.Seq.{drop-drop, take-add, take_all}
 use borrow.Author.Tests.{ne_eqb}
 use Rattle.text.specs.Digits.{within}
-use Rattle.text.proofs.Bools.{and_false, by_test, within_is, within_yes, within_over}
+use Rattle.text.proofs.Bools.{and_false, by_test, within_is}
 use Rattle.unit.specs.Units.{spellings, low, kelvin, lower, unit_of}
-use Rattle.unit.specs.Keys.{lowered, key_on, by_key, code_of, letter_of, Packed, LettersIs}
+use Rattle.unit.specs.Keys.{lowered, key_on, by_key, plain_letter, letter_of, front_of, Packed, LettersIs}
 use Rattle.unit.specs.declared.letters.Letter.{Letter}
 use Rattle.unit.specs.declared.letters.Letters.{Letters as LettersRead}
 use Rattle.unit.proofs.Spelling.{Letters, lower_letters}
@@ -25,37 +25,6 @@ use Rattle.unit.proofs.Keying.{unit_by_key, not_lowered, too_large}
 not_kelvin : (b c d : ℕ) → b < 0xE2 → kelvin b c d ≡ false
 unfolding kelvin
 not_kelvin b c d h = rw (ne_eqb b 0xE2 (λ e. omega arith))
-
-module _ (b c d : ℕ) where
-  pub small_letter : within 0x61 b 0x7A ≡ true → record { code = b - 0x60; width = 1 } ≡ letter_of b c d
-  unfolding letter_of code_of low
-  small_letter h =
-      let r = within_is 0x61 b 0x7A h in
-      rw (not_kelvin b c d (omega arith), within_over 0x41 b 0x5A (omega arith), h)
-
-  pub capital_letter : within 0x41 b 0x5A ≡ true → record { code = b - 0x40; width = 1 } ≡ letter_of b c d
-  unfolding letter_of code_of low
-  capital_letter h =
-      let r = within_is 0x41 b 0x5A h in
-      let e : (b + 0x20) - 0x60 ≡ b - 0x40 = omega arith in
-      rw (not_kelvin b c d (omega arith), h, within_yes 0x61 (b + 0x20) 0x7A (omega arith) (omega arith), e)
-
-  pub kelvin_letter : b ≡ 0xE2 → eqb c 0x84 && eqb d 0xAA ≡ true → record { code = 11; width = 3 } ≡ letter_of b c d
-  unfolding letter_of kelvin
-  kelvin_letter p q = rw (p, q)
-
-  module _ (p : within 0x61 b 0x7A ≡ false) (q : within 0x41 b 0x5A ≡ false) where
-    plain_none : kelvin b c d ≡ false → record { code = 0; width = 1 } ≡ letter_of b c d
-    unfolding letter_of code_of low
-    plain_none r = rw (r, q, p)
-
-    pub no_letter : (b ≡ 0xE2 → ⊥) → record { code = 0; width = 1 } ≡ letter_of b c d
-    unfolding kelvin
-    no_letter h = plain_none (rw (ne_eqb b 0xE2 h))
-
-    pub no_kelvin_letter : eqb c 0x84 && eqb d 0xAA ≡ false → record { code = 0; width = 1 } ≡ letter_of b c d
-    unfolding kelvin
-    no_kelvin_letter h = plain_none (rw (h, and_false (eqb b 0xE2)))
 
 -- ---- the letter at the front of a text
 
@@ -72,9 +41,6 @@ pub record Fronts (t : List ℕ) (l : Letter) : Type 0 where
   pub most : l.code ≤ 26
   pub key_on_lem : (k : ℕ) (x : List ℕ) → key_on k (lower (take l.width t ++ x)) ≡ key_on (k * 32 + l.code) (lower x)
   pub lowered_on : (x : List ℕ) → lowered (lower (take l.width t ++ x)) ≡ lowered (lower x)
-
-abbrev front_of : List ℕ → Letter
-front_of t = letter_of (get_or t 0 0) (get_or t 1 0) (get_or t 2 0)
 
 plain_front : (b : ℕ) (t : List ℕ) → within 0x61 (low b) 0x7A ≡ true → b < 0xE2 → Fronts (b ∷ t) (record { code = low b - 0x60; width = 1 })
 unfolding key_on lowered
@@ -111,55 +77,53 @@ kelvin_front (b ∷ c ∷ d ∷ t) e =
     }
 
 -- one of the two
-letter_cases : (b c d : ℕ) → (kelvin b c d ≡ true → letter_of b c d ≡ record { code = 11; width = 3 }) × (kelvin b c d ≡ false → letter_of b c d ≡ record { code = code_of (low b); width = 1 })
+letter_cases : (b c d : ℕ) → (kelvin b c d ≡ true → letter_of b c d ≡ Some (record { code = 11; width = 3 })) × (kelvin b c d ≡ false → letter_of b c d ≡ plain_letter (low b))
 unfolding letter_of
 letter_cases b c d = (λ k. rw k, λ k. rw k)
 
-no_code : (b : ℕ) → within 0x61 (low b) 0x7A ≡ false → code_of (low b) ≡ 0
-unfolding code_of
+no_code : (b : ℕ) → within 0x61 b 0x7A ≡ false → plain_letter b ≡ None
+unfolding plain_letter
 no_code b w = rw w
 
-is_code : (b : ℕ) → within 0x61 (low b) 0x7A ≡ true → code_of (low b) ≡ low b - 0x60
-unfolding code_of
+is_code : (b : ℕ) → within 0x61 b 0x7A ≡ true → plain_letter b ≡ Some (record { code = b - 0x60; width = 1 })
+unfolding plain_letter
 is_code b w = rw w
 
-module _ (b c d : ℕ) (l : Letter) (e : l ≡ letter_of b c d) where
-  code_of_lem : kelvin b c d ≡ false → l.code ≡ code_of (low b)
-  code_of_lem k = ap (λ (x : Letter). x.code) (e ∙ (letter_cases b c d).1 k)
+module _ (b c d : ℕ) (e : None ≡ letter_of b c d) where
+  no_kelvin : kelvin b c d ≡ false
+  no_kelvin = by_test (kelvin b c d) (λ k. let q = e ∙ (letter_cases b c d).0 k in cc) (λ k. k)
 
-  no_kelvin : l.code ≡ 0 → kelvin b c d ≡ false
-  no_kelvin z =
-      by_test (kelvin b c d)
-      (λ k. absurd (omega (arith, ap (λ (x : Letter). x.code) (e ∙ (letter_cases b c d).0 k))))
-      (λ k. k)
-
-  no_plain : l.code ≡ 0 → within 0x61 (low b) 0x7A ≡ false
-  no_plain z =
+  no_plain : within 0x61 (low b) 0x7A ≡ false
+  no_plain =
       by_test (within 0x61 (low b) 0x7A)
-      (λ w. absurd (omega (arith, code_of_lem (no_kelvin z), is_code b w, within_is 0x61 (low b) 0x7A w)))
+      (λ w. let q = e ∙ (letter_cases b c d).1 no_kelvin ∙ is_code (low b) w in cc)
       (λ w. w)
 
--- a letter, or none
-pub front : (t : List ℕ) (l : Letter) → 0 < length t → l ≡ front_of t → (l.code ≡ 0 → ⊥) → Fronts t l
-front [] l p e n = absurd (omega arith)
-front (b ∷ t) l p e n =
-    by_test (kelvin b (get_or t 0 0) (get_or t 1 0))
-    (λ k. rw (e ∙ (letter_cases b (get_or t 0 0) (get_or t 1 0)).0 k) (kelvin_front (b ∷ t) k))
-    (λ k. by_test (within 0x61 (low b) 0x7A)
-    (λ w. rw (e ∙ (letter_cases b (get_or t 0 0) (get_or t 1 0)).1 k, is_code b w) (plain_front b t w (low_ascii b w)))
-    (λ w. absurd (n (code_of_lem b (get_or t 0 0) (get_or t 1 0) l e k ∙ no_code b w))))
+some_is : {l m : Letter} → Some l ≡ Some m → l ≡ m
+some_is e = cc
 
-pub no_front : (t : List ℕ) (l : Letter) → 0 < length t → l ≡ front_of t → l.code ≡ 0 → (n : ℕ) → 0 < n → lowered (lower (take n t)) ≡ false
+-- a letter, or none
+pub front : (t : List ℕ) (l : Letter) → Some l ≡ front_of t → Fronts t l
+unfolding letter_of plain_letter kelvin low
+front [] l e = cc
+front (b ∷ t) l e =
+    by_test (kelvin b (get_or t 0 0) (get_or t 1 0))
+    (λ k. rw (some_is (e ∙ (letter_cases b (get_or t 0 0) (get_or t 1 0)).0 k)) (kelvin_front (b ∷ t) k))
+    (λ k. by_test (within 0x61 (low b) 0x7A)
+    (λ w. rw (some_is (e ∙ (letter_cases b (get_or t 0 0) (get_or t 1 0)).1 k ∙ is_code (low b) w)) (plain_front b t w (low_ascii b w)))
+    (λ w. let q = e ∙ (letter_cases b (get_or t 0 0) (get_or t 1 0)).1 k ∙ no_code (low b) w in cc))
+
+pub no_front : (t : List ℕ) → 0 < length t → None ≡ front_of t → (n : ℕ) → 0 < n → lowered (lower (take n t)) ≡ false
 unfolding lower lowered
-no_front [] l p e z n h = absurd (omega arith)
-no_front (b ∷ t) l p e z zero h = absurd (omega arith)
-no_front (b ∷ []) l p e z (suc zero) h = rw (no_plain b 0 0 l e z)
-no_front (b ∷ []) l p e z (suc (suc n)) h = rw (no_plain b 0 0 l e z)
-no_front (b ∷ c ∷ t) l p e z (suc zero) h = rw (no_plain b c (get_or t 0 0) l e z)
-no_front (b ∷ c ∷ []) l p e z (suc (suc zero)) h = rw (no_plain b c 0 l e z)
-no_front (b ∷ c ∷ []) l p e z (suc (suc (suc n))) h = rw (no_plain b c 0 l e z)
-no_front (b ∷ c ∷ d ∷ t) l p e z (suc (suc zero)) h = rw (no_plain b c d l e z)
-no_front (b ∷ c ∷ d ∷ t) l p e z (suc (suc (suc n))) h = rw (no_kelvin b c d l e z, no_plain b c d l e z)
+no_front [] p e n h = absurd (omega arith)
+no_front (b ∷ t) p e zero h = absurd (omega arith)
+no_front (b ∷ []) p e (suc zero) h = rw (no_plain b 0 0 e)
+no_front (b ∷ []) p e (suc (suc n)) h = rw (no_plain b 0 0 e)
+no_front (b ∷ c ∷ t) p e (suc zero) h = rw (no_plain b c (get_or t 0 0) e)
+no_front (b ∷ c ∷ []) p e (suc (suc zero)) h = rw (no_plain b c 0 e)
+no_front (b ∷ c ∷ []) p e (suc (suc (suc n))) h = rw (no_plain b c 0 e)
+no_front (b ∷ c ∷ d ∷ t) p e (suc (suc zero)) h = rw (no_plain b c d e)
+no_front (b ∷ c ∷ d ∷ t) p e (suc (suc (suc n))) h = rw (no_kelvin b c d e, no_plain b c d e)
 
 -- ---- letters from a place on
 
@@ -198,40 +162,36 @@ pub record OneMore (s : List ℕ) (from i k : ℕ) (l : Letter) : Type 0 where
   pub most : l.code ≤ 26
   pub packed : Packed (take ((i + l.width) - from) (drop from s)) (k * 32 + l.code)
 
--- the letter l stands at place i, behind letters with the key k
-module _ (s : List ℕ) (from i k : ℕ) (h : from ≤ i) (p : i < length s) (P : Packed (take (i - from) (drop from s)) k) {l : Letter} (e : l ≡ letter_of (get_or s i 0) (get_or s (i + 1) 0) (get_or s (i + 2) 0)) where
-  here : l ≡ front_of (drop i s)
-  here = e ∙ rw (get_or-drop i s 0 0, get_or-drop i s 1 0, get_or-drop i s 2 0, add-zero)
-
-  rest_some : 0 < length (drop i s)
-  rest_some = omega (arith, length-drop i s)
-
-  letter_here : (l.code ≡ 0 → ⊥) → Fronts (drop i s) l
-  letter_here n = front (drop i s) l rest_some here n
+-- behind letters with the key k, at place i
+module _ (s : List ℕ) (from i k : ℕ) (h : from ≤ i) (P : Packed (take (i - from) (drop from s)) k) where
+  -- what is left of the text, as the code slices it
+  rest_is : take (length s - i) (drop i s) ≡ drop i s
+  rest_is = take_all (length s - i) (drop i s) (omega (arith, length-drop i s))
 
   -- no word goes on where there is no letter
-  pub ends_here : l.code ≡ 0 → (n : ℕ) → 0 < n → i < length s → unit_of (take (i - from) (drop from s) ++ take n (drop i s)) ≡ none
+  pub ends_here : None ≡ front_of (take (length s - i) (drop i s)) → (n : ℕ) → 0 < n → i < length s → unit_of (take (i - from) (drop from s) ++ take n (drop i s)) ≡ None
   ends_here z n q r =
       not_lowered (take (i - from) (drop from s) ++ take n (drop i s))
-      (P.letters_are (take n (drop i s)) ∙ no_front (drop i s) l rest_some here z n q)
+      (P.letters_are (take n (drop i s)) ∙ no_front (drop i s) (omega (arith, length-drop i s)) (rw rest_is at z) n q)
 
   -- nor where the key is large already
-  pub full_here : 36028797018963968 ≤ k → (n : ℕ) → 0 < n → i < length s → unit_of (take (i - from) (drop from s) ++ take n (drop i s)) ≡ none
+  pub full_here : 36028797018963968 ≤ k → (n : ℕ) → 0 < n → i < length s → unit_of (take (i - from) (drop from s) ++ take n (drop i s)) ≡ None
   full_here g n q r =
+      let y : 0 < length (drop i s) = omega (arith, length-drop i s) in
       too_large (take (i - from) (drop from s) ++ take n (drop i s))
-      (omega (arith, P.key_is (take n (drop i s)), key_grown k (lower (take n (drop i s))) (lower_some (drop i s) n rest_some q)))
+      (omega (arith, P.key_is (take n (drop i s)), key_grown k (lower (take n (drop i s))) (lower_some (drop i s) n y q)))
 
   -- one letter more
-  pub letter_more : (l.code ≡ 0 → ⊥) → OneMore s from i k l
-  letter_more n =
-      let F = letter_here n in
+  pub letter_more : i ≤ length s → {l : Letter} → Some l ≡ front_of (take (length s - i) (drop i s)) → OneMore s from i k l
+  letter_more p {l} e =
+      let F = front (drop i s) l (rw rest_is at e) in
       let a : (i + l.width) - from ≡ (i - from) + l.width = omega arith in
       let b : from + (i - from) ≡ i = omega arith in
       let q : drop (i - from) (drop from s) ≡ drop i s = drop-drop (i - from) from s ∙ rw b in
       let u : take ((i + l.width) - from) (drop from s) ≡ take (i - from) (drop from s) ++ take l.width (drop i s) = rw (a, take-add (i - from) l.width (drop from s), q) in
       record {
         further = F.wide;
-        inside = omega (arith, F.within_t, length-drop i s);
+        inside = omega (arith, F.wide, F.within_t, length-drop i s);
         most = F.most;
         packed = rw u (record {
           key_is = λ x. rw (append_assoc (take (i - from) (drop from s)) (take l.width (drop i s)) x) (P.key_is (take l.width (drop i s) ++ x) ∙ F.key_on_lem k x);
@@ -258,5 +218,5 @@ module _ (s : List ℕ) (r : LettersRead) (L : LettersIs s 0 r) where
   pub word_letters : length s ≤ r.end → by_key r.key spellings ≡ unit_of s
   word_letters h = rw (sub-zero, take_all r.end s h) at (packed_unit L.packed)
 
-  pub word_longer : r.end < length s → none ≡ unit_of s
+  pub word_longer : r.end < length s → None ≡ unit_of s
   word_longer h = sym (rw (sub-zero, take_all (length s) (drop r.end s) (omega (arith, length-drop r.end s)), take-append-drop r.end s) at (L.longest (length s) (omega arith) h))

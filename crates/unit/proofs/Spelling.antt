@@ -3,7 +3,7 @@ use mathlib.Core.Path.{◌≡◌, refl}
 use mathlib.Core.Bool.{Bool, true, false, ◌&&◌, false≢true}
 use mathlib.Core.Logic.{⊎_elim}
 use mathlib.Core.List.{List, [], ◌∷◌, ◌++◌}
-use mathlib.Core.Option.{none, some}
+use Rattle.std.specs.Prelude.{None, Some}
 use Prim.Native.Nat.{ℕ, suc, ◌+◌, ◌≤◌, ◌<◌}
 use Prim.Native.String.{String}
 use native.Mathlib.Omega.{arith}
@@ -197,11 +197,11 @@ module _ (s : List ℕ) (i : ℕ) where
 -- ---- what a word w spells
 
 module _ (w : List ℕ) where
-  pub spells : {v : IntervalUnit} → unit_of w ≡ some v → is_unit w ≡ true
+  pub spells : {v : IntervalUnit} → unit_of w ≡ Some v → is_unit w ≡ true
   unfolding is_unit present
   spells e = rw e
 
-  pub spells_none : unit_of w ≡ none → is_unit w ≡ false
+  pub spells_none : unit_of w ≡ None → is_unit w ≡ false
   unfolding is_unit present
   spells_none e = rw e
 

@@ -2,7 +2,7 @@
 -- Assumes nothing.
 use mathlib.Core.Path.{◌≡◌, refl, sym, ◌∙◌}
 use mathlib.Core.List.{List, [], ◌∷◌}
-use mathlib.Core.Option.{Option, none, some}
+use Rattle.std.specs.Prelude.{Option, None, Some, unwrap_or}
 use Prim.Native.Nat.{ℕ, ◌+◌, ◌-◌, ◌≤◌, ◌<◌}
 use native.Mathlib.Omega.{arith}
 use lib.Dec.{eqb, leb}
@@ -11,7 +11,7 @@ use lib.Seq.{drop-drop, take-add, length-take-le}
 use borrow.Author.Tests.{eqb-true, eqb-false, leb-true, leb-false}
 use Rattle.white.specs.WhiteSpace.{white_len}
 use Rattle.text.proofs.Bools.{by_test}
-use Rattle.unit.specs.Units.{spellings, same, one_of, find, lower, unit_of, word_len}
+use Rattle.unit.specs.Units.{spellings, same, one_of, find, lower, unit_of, or_else, word_len}
 use Rattle.unit.specs.Keys.{by_key, LettersIs}
 use Rattle.unit.specs.Read.{word_end, word_of, Followed}
 use Rattle.unit.specs.declared.IntervalUnit.{IntervalUnit}
@@ -41,11 +41,11 @@ word_here s at e = let q : at + word_len (drop at s) - at ≡ word_len (drop at 
 
 -- ---- no word past the end
 
-no_word : unit_of [] ≡ none
+no_word : unit_of [] ≡ None
 unfolding unit_of find one_of same lower spellings
 no_word = refl
 
-pub past_none : (s : List ℕ) (at : ℕ) → length s ≤ at → unit_of (word_of s at) ≡ none
+pub past_none : (s : List ℕ) (at : ℕ) → length s ≤ at → unit_of (word_of s at) ≡ None
 unfolding word_of word_len
 past_none s at h = rw (drop_of_length-le s h) no_word
 
@@ -61,7 +61,7 @@ module _ (s : List ℕ) (f : ℕ) (r : Letters) (L : LettersIs s f r) where
       rw (take-append-drop (r.end - f) (drop f s), rest_is, k) at (word_past (take (r.end - f) (drop f s)) (drop (r.end - f) (drop f s)) (packed_letters L.packed))
 
   -- the word goes on behind the letters
-  pub goes_on : r.end < length s → white_len (drop r.end s) ≡ 0 → unit_of (word_of s f) ≡ none
+  pub goes_on : r.end < length s → white_len (drop r.end s) ≡ 0 → unit_of (word_of s f) ≡ None
   unfolding word_of
   goes_on h e =
       rw (word_len_lem, take-add (r.end - f) (word_len (drop r.end s)) (drop f s), rest_is) (L.longest (word_len (drop r.end s)) (omega (arith, word_on s r.end h e)) h)
@@ -76,7 +76,7 @@ module _ (s : List ℕ) (f : ℕ) (r : Letters) (L : LettersIs s f r) where
     unfolding word_of
     spelled_is = let e : word_len (drop f s) ≡ r.end - f = omega (arith, word_len_lem, h) in rw e (packed_unit L.packed)
 
-  pub no_unit : none ≡ by_key r.key spellings → unit_of (word_of s f) ≡ none
+  pub no_unit : None ≡ by_key r.key spellings → unit_of (word_of s f) ≡ None
   no_unit e =
       by_test (leb (length s) r.end)
       (λ p. sym (spelled_is (word_end_lem s r.end (leb-true (length s) r.end p))) ∙ sym e)
@@ -84,8 +84,8 @@ module _ (s : List ℕ) (f : ℕ) (r : Letters) (L : LettersIs s f r) where
       (λ q. goes_on (leb-false (length s) r.end p) (eqb-true (white_len (drop r.end s)) 0 q))
       (λ q. sym (spelled_is (word_off s r.end (omega (arith, eqb-false (white_len (drop r.end s)) 0 q)))) ∙ sym e))
 
-  module _ {u : IntervalUnit} (e : some u ≡ by_key r.key spellings) where
-    pub last_unit : length s ≤ r.end → (unit_of (word_of s f) ≡ some u) × (length s ≤ word_end s f)
+  module _ {u : IntervalUnit} (e : Some u ≡ by_key r.key spellings) where
+    pub last_unit : length s ≤ r.end → (unit_of (word_of s f) ≡ Some u) × (length s ≤ word_end s f)
     last_unit h = let z = word_end_lem s r.end h in (sym (spelled_is z) ∙ sym e, rw (← ends z) h)
 
     pub more_unit : {white : ℕ} → white ≡ white_len (drop r.end s) → (white ≡ 0 → ⊥) → white ≤ length s - r.end → r.end < length s → Followed s f u (r.end + white)
@@ -97,3 +97,10 @@ module _ (s : List ℕ) (f : ℕ) (r : Letters) (L : LettersIs s f r) where
           further = rw (← ends z) (omega (arith, n));
           inside = omega arith;
         }
+
+-- ---- the unit found, else the default: Rust's `unwrap_or` on it
+
+pub or_else_lem : (u : IntervalUnit) (o : Option IntervalUnit) → unwrap_or o u ≡ or_else u o
+unfolding or_else
+or_else_lem u None = refl
+or_else_lem u (Some v) = refl

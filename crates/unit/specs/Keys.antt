@@ -1,7 +1,6 @@
 -- How the code reads a unit word: its letters, in lower case and with U+212A as k, are the digits of a number of base 32, by which the
 -- unit is found. Assumes nothing.
-use Rattle.std.specs.Prelude.{◌≡◌, Bool, true, false, cond, ◌&&◌, List, [], ◌∷◌, ◌++◌, ℕ, ◌+◌, ◌-◌, ◌*◌, ◌≤◌, ◌<◌, eqb, length, take, drop}
-use Rattle.std.proofs.Math.Option.{Option, none, some}
+use Rattle.std.specs.Prelude.{◌≡◌, Bool, true, false, cond, ◌&&◌, List, [], ◌∷◌, ◌++◌, ℕ, ◌+◌, ◌-◌, ◌*◌, ◌≤◌, ◌<◌, eqb, get_or, length, take, drop, Option, None, Some}
 use Prim.Native.String.{String}
 use Rattle.text.specs.Digits.{within}
 use Rattle.utf8.specs.Quoted.{bytes}
@@ -31,16 +30,20 @@ key_in (s ∷ l) k = cond (eqb k (key_of s)) true (key_in l k)
 
 -- the unit in whose row a word with the key k stands
 unfoldable pub by_key : ℕ → List Row → Option IntervalUnit
-by_key k [] = none
-by_key k (row u words ∷ rows) = cond (key_in words k) (some u) (by_key k rows)
+by_key k [] = None
+by_key k (row u words ∷ rows) = cond (key_in words k) (Some u) (by_key k rows)
 
--- a lower-case letter's number from 1 to 26, 0 for any other byte
-unfoldable pub code_of : ℕ → ℕ
-code_of b = cond (within 0x61 b 0x7A) (b - 0x60) 0
+-- a lower-case letter and its number from 1 to 26, none for any other byte
+unfoldable pub plain_letter : ℕ → Option Letter
+plain_letter b = cond (within 0x61 b 0x7A) (Some (record { code = b - 0x60; width = 1 })) None
 
 -- the letter that three bytes begin with: U+212A is a k
-unfoldable pub letter_of : ℕ → ℕ → ℕ → Letter
-letter_of b c d = cond (kelvin b c d) (record { code = 11; width = 3 }) (record { code = code_of (low b); width = 1 })
+unfoldable pub letter_of : ℕ → ℕ → ℕ → Option Letter
+letter_of b c d = cond (kelvin b c d) (Some (record { code = 11; width = 3 })) (plain_letter (low b))
+
+-- the letter that a text begins with
+abbrev pub front_of : List ℕ → Option Letter
+front_of t = letter_of (get_or t 0 0) (get_or t 1 0) (get_or t 2 0)
 
 -- the bytes u are letters with the key k, whatever follows them
 pub record Packed (u : List ℕ) (k : ℕ) : Type 0 where
@@ -52,4 +55,4 @@ pub record LettersIs (s : List ℕ) (from : ℕ) (r : Letters) : Type 0 where
   pub start : from ≤ r.end
   pub inside : r.end ≤ length s
   pub packed : Packed (take (r.end - from) (drop from s)) r.key
-  pub longest : (n : ℕ) → 0 < n → r.end < length s → unit_of (take (r.end - from) (drop from s) ++ take n (drop r.end s)) ≡ none
+  pub longest : (n : ℕ) → 0 < n → r.end < length s → unit_of (take (r.end - from) (drop from s) ++ take n (drop r.end s)) ≡ None

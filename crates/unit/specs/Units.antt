@@ -1,8 +1,7 @@
 -- The units of an interval and their spellings: document 01, "Interval grammar", "Units are the spellings in `IntervalUnit::from_str`, in
 -- any ASCII case; U+212A counts as k". PostgreSQL 15, section 8.5.4, has millennium besides and no nanosecond, and leaves abbreviations
 -- and plurals open. Assumes nothing.
-use Rattle.std.specs.Prelude.{Bool, true, false, cond, ◌&&◌, ◌||◌, List, [], ◌∷◌, ℕ, zero, suc, ◌+◌, eqb}
-use Rattle.std.proofs.Math.Option.{Option, none, some}
+use Rattle.std.specs.Prelude.{Bool, true, false, cond, ◌&&◌, ◌||◌, List, [], ◌∷◌, ℕ, zero, suc, ◌+◌, eqb, Option, None, Some}
 use Prim.Native.String.{String}
 use Rattle.text.specs.Digits.{within}
 use Rattle.utf8.specs.Quoted.{bytes}
@@ -32,8 +31,8 @@ units =
 
 -- what stands at a place of a list, if anything
 unfoldable pub place : List IntervalUnit → ℕ → Option IntervalUnit
-place [] n = none
-place (u ∷ l) zero = some u
+place [] n = None
+place (u ∷ l) zero = Some u
 place (u ∷ l) (suc n) = place l n
 
 -- the unit that a number names
@@ -74,8 +73,8 @@ one_of (s ∷ l) w = same w (bytes s) || one_of l w
 
 -- the unit in whose row a word stands
 unfoldable pub find : List Row → List ℕ → Option IntervalUnit
-find [] w = none
-find (row u words ∷ rows) w = cond (one_of words w) (some u) (find rows w)
+find [] w = None
+find (row u words ∷ rows) w = cond (one_of words w) (Some u) (find rows w)
 
 -- a letter A to Z in lower case, any other byte as it is
 unfoldable pub low : ℕ → ℕ
@@ -98,8 +97,8 @@ unit_of w = find spellings (lower w)
 
 -- there is one
 unfoldable pub present : Option IntervalUnit → Bool
-present none = false
-present (some u) = true
+present None = false
+present (Some u) = true
 
 -- the word spells a unit
 unfoldable pub is_unit : List ℕ → Bool
@@ -107,8 +106,8 @@ is_unit w = present (unit_of w)
 
 -- the unit found, else the default u: "the one spelled, else the default"
 unfoldable pub or_else : IntervalUnit → Option IntervalUnit → IntervalUnit
-or_else u none = u
-or_else u (some v) = v
+or_else u None = u
+or_else u (Some v) = v
 
 -- how many bytes stand before the first white space character: a unit word ends there
 unfoldable pub word_len : List ℕ → ℕ

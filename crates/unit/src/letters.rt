@@ -1,12 +1,11 @@
 // The letters of a unit word, read at a place of a text as digits of base 32, and the unit by that number.
-ghost use Rattle.std.specs.Prelude.{◌≡◌, ◌+◌, ◌≤◌, ◌<◌, length, get_or};
+ghost use Rattle.std.specs.Prelude.{◌≡◌, ◌≤◌, length};
 ghost use Rattle.unit.specs.Units.{spellings};
-ghost use Rattle.unit.specs.Keys.{letter_of, LettersIs, by_key};
-ghost use Rattle.unit.specs.Read.{unit_read};
+ghost use Rattle.unit.specs.Keys.{front_of, LettersIs, by_key};
 
-use crate::{IntervalUnit, UnitRead};
+use crate::IntervalUnit;
 
-// A letter of a unit word: 1 for a to 26 for z, 0 where it is none; and how many bytes it takes.
+// A letter of a unit word: 1 for a to 26 for z; and how many bytes it takes.
 #[derive(Clone, Copy)]
 pub struct Letter {
     pub code: u64,
@@ -20,84 +19,66 @@ pub struct Letters {
     pub end: usize,
 }
 
-// The letter at a place, in either case; U+212A is a k, and is looked for last.
-pub fn letter_at(text: &[u8], i: usize) -> Letter
-    requires { i < length text.now }
-    ensures { result ≡ letter_of (get_or text.now i 0) (get_or text.now (i + 1) 0) (get_or text.now (i + 2) 0) }
+// The letter that a text begins with, in either case; U+212A is a k.
+#[tactic(auto, unfolding(crate::specs::Keys::letter_of, crate::specs::Keys::plain_letter, crate::specs::Units::kelvin, crate::specs::Units::low))]
+pub fn first_letter(text: &[u8]) -> Option<Letter>
+    ensures { result ≡ front_of text.now }
 {
-    let b = text[i];
-    if (0x61 <= b) & (b <= 0x7A) {
-        return Letter {
-            code: (b as u64) - 0x60,
+    match text {
+        [b @ b'a'..=b'z', ..] => Some(Letter {
+            code: (*b - 0x60) as u64,
             width: 1,
-        };
-    }
-    if (0x41 <= b) & (b <= 0x5A) {
-        return Letter {
-            code: (b as u64) - 0x40,
+        }),
+        [b @ b'A'..=b'Z', ..] => Some(Letter {
+            code: (*b - 0x40) as u64,
             width: 1,
-        };
+        }),
+        [0xE2, 0x84, 0xAA, ..] => Some(Letter { code: 11, width: 3 }),
+        _ => None,
     }
-    if b != 0xE2 {
-        return Letter { code: 0, width: 1 };
-    }
-    let c = text::byte_at(text, i + 1);
-    let d = text::byte_at(text, i + 2);
-    if (c == 0x84) & (d == 0xAA) {
-        return Letter { code: 11, width: 3 };
-    }
-    Letter { code: 0, width: 1 }
 }
 
-// The letters at a place, as many as a unit can have, packed as digits of base 32.
+// The letters at a place, as many as a unit can have, packed as digits of base 32. A `while`, since U+212A is a letter of three bytes.
 pub fn letters_at(text: &[u8], from: usize) -> Letters
     requires { from ≤ length text.now }
     ensures { LettersIs text.now from result }
 {
     let mut key: u64 = 0;
-    let mut i = from;
-    while i < text.len() {
-        let letter = letter_at(text, i);
-        let code = letter.code;
-        let width = letter.width;
-        if code == 0 {
-            return Letters { key, end: i };
-        }
+    let mut end = from;
+    while let Some(letter) = first_letter(&text[end..]) {
         // 32^11: twelve letters are read, and no unit has thirteen.
         if 36028797018963968 <= key {
-            return Letters { key, end: i };
+            break;
         }
-        key = key * 32 + code;
-        i += width;
+        key = key * 32 + letter.code;
+        end += letter.width;
     }
-    Letters { key, end: i }
+    Letters { key, end }
 }
 
 // The unit whose spelling has that key.
-pub fn unit_of_key(key: u64) -> UnitRead
-    ensures { unit_read result ≡ by_key key spellings }
+pub fn unit_of_key(key: u64) -> Option<IntervalUnit>
+    ensures { result ≡ by_key key spellings }
 {
     match key {
         // c, cent, cents, century, centuries
-        3 | 103892 | 3324563 | 3404355161 | 3486059668659 => {
-            UnitRead::Unit(IntervalUnit::Century)
-        }
+        3 | 103892 | 3324563 | 3404355161 | 3486059668659 => Some(IntervalUnit::Century),
         // dec, decs, decade, decades
-        4259 | 136307 | 139560069 | 4465922227 => { UnitRead::Unit(IntervalUnit::Decade) }
+        4259 | 136307 | 139560069 | 4465922227 => Some(IntervalUnit::Decade),
         // y, yr, yrs, year, years
-        25 | 818 | 26195 | 824370 | 26379859 => { UnitRead::Unit(IntervalUnit::Year) }
+        25 | 818 | 26195 | 824370 | 26379859 => Some(IntervalUnit::Year),
         // mon, mons, month, months
-        13806 | 441811 | 14137992 | 452415763 => { UnitRead::Unit(IntervalUnit::Month) }
+        13806 | 441811 | 14137992 | 452415763 => Some(IntervalUnit::Month),
         // w, week, weeks
-        23 | 758955 | 24286579 => { UnitRead::Unit(IntervalUnit::Week) }
+        23 | 758955 | 24286579 => Some(IntervalUnit::Week),
         // d, day, days
-        4 | 4153 | 132915 => { UnitRead::Unit(IntervalUnit::Day) }
+        4 | 4153 | 132915 => Some(IntervalUnit::Day),
         // h, hr, hrs, hour, hours
-        8 | 274 | 8787 | 278194 | 8902227 => { UnitRead::Unit(IntervalUnit::Hour) }
+        8 | 274 | 8787 | 278194 | 8902227 => Some(IntervalUnit::Hour),
         // m, min, mins, minute, minutes
-        13 | 13614 | 435667 | 446125701 | 14276022451 => { UnitRead::Unit(IntervalUnit::Minute) }
+        13 | 13614 | 435667 | 446125701 | 14276022451 => Some(IntervalUnit::Minute),
         // s, sec, secs, second, seconds
-        19 | 19619 | 627827 | 642891204 | 20572518547 => { UnitRead::Unit(IntervalUnit::Second) }
+        19 | 19619 | 627827 | 642891204 | 20572518547 => Some(IntervalUnit::Second),
         // ms, msec, msecs, msecond, mseconds, millisecond, milliseconds
         435
         | 445603
@@ -105,7 +86,7 @@ pub fn unit_of_key(key: u64) -> UnitRead
         | 14601534916
         | 467249117331
         | 14966974900714948
-        | 478943196822878355 => { UnitRead::Unit(IntervalUnit::Millisecond) }
+        | 478943196822878355 => Some(IntervalUnit::Millisecond),
         // us, usec, usecs, usecond, useconds, microsecond, microseconds
         691
         | 707747
@@ -113,9 +94,9 @@ pub fn unit_of_key(key: u64) -> UnitRead
         | 23191469508
         | 742127024275
         | 14957291896946116
-        | 478633340702275731 => { UnitRead::Unit(IntervalUnit::Microsecond) }
+        | 478633340702275731 => Some(IntervalUnit::Microsecond),
         // nanosecond, nanoseconds
-        494178506227140 | 15813712199268499 => { UnitRead::Unit(IntervalUnit::Nanosecond) }
-        _ => UnitRead::None,
+        494178506227140 | 15813712199268499 => Some(IntervalUnit::Nanosecond),
+        _ => None,
     }
 }

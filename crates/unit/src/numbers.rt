@@ -1,49 +1,37 @@
 // The units by their numbers, from 0 century to 11 nanosecond.
 ghost use Rattle.std.specs.Prelude.{◌≡◌};
 ghost use Rattle.unit.specs.Units.{rank, unit_numbered};
-ghost use Rattle.unit.specs.Read.{unit_read};
 
-use crate::{IntervalUnit, UnitRead};
+use crate::IntervalUnit;
 
 impl IntervalUnit {
     // The unit's place in the list, where its mark is kept.
+    #[tactic(auto, unfolding(crate::specs::Units::rank))]
     pub fn mark(self) -> usize
         ensures { result ≡ rank self }
     {
-        match self {
-            IntervalUnit::Century => 0,
-            IntervalUnit::Decade => 1,
-            IntervalUnit::Year => 2,
-            IntervalUnit::Month => 3,
-            IntervalUnit::Week => 4,
-            IntervalUnit::Day => 5,
-            IntervalUnit::Hour => 6,
-            IntervalUnit::Minute => 7,
-            IntervalUnit::Second => 8,
-            IntervalUnit::Millisecond => 9,
-            IntervalUnit::Microsecond => 10,
-            IntervalUnit::Nanosecond => 11,
-        }
+        self as usize
     }
 }
 
 // The unit that a number names, if it names one: the inverse of `mark`.
-pub fn unit_numbered(number: u8) -> UnitRead
-    ensures { unit_read result ≡ unit_numbered number }
+#[tactic(auto, unfolding(crate::specs::Units::place))]
+pub fn unit_numbered(number: u8) -> Option<IntervalUnit>
+    ensures { result ≡ unit_numbered number }
 {
     match number {
-        0 => UnitRead::Unit(IntervalUnit::Century),
-        1 => UnitRead::Unit(IntervalUnit::Decade),
-        2 => UnitRead::Unit(IntervalUnit::Year),
-        3 => UnitRead::Unit(IntervalUnit::Month),
-        4 => UnitRead::Unit(IntervalUnit::Week),
-        5 => UnitRead::Unit(IntervalUnit::Day),
-        6 => UnitRead::Unit(IntervalUnit::Hour),
-        7 => UnitRead::Unit(IntervalUnit::Minute),
-        8 => UnitRead::Unit(IntervalUnit::Second),
-        9 => UnitRead::Unit(IntervalUnit::Millisecond),
-        10 => UnitRead::Unit(IntervalUnit::Microsecond),
-        11 => UnitRead::Unit(IntervalUnit::Nanosecond),
-        _ => UnitRead::None,
+        0 => Some(IntervalUnit::Century),
+        1 => Some(IntervalUnit::Decade),
+        2 => Some(IntervalUnit::Year),
+        3 => Some(IntervalUnit::Month),
+        4 => Some(IntervalUnit::Week),
+        5 => Some(IntervalUnit::Day),
+        6 => Some(IntervalUnit::Hour),
+        7 => Some(IntervalUnit::Minute),
+        8 => Some(IntervalUnit::Second),
+        9 => Some(IntervalUnit::Millisecond),
+        10 => Some(IntervalUnit::Microsecond),
+        11 => Some(IntervalUnit::Nanosecond),
+        _ => None,
     }
 }

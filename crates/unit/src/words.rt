@@ -2,21 +2,19 @@
 ghost use Rattle.std.specs.Prelude.{◌≡◌, ◌-◌, ◌≤◌, length, drop};
 ghost use Rattle.white.specs.WhiteSpace.{white_len};
 ghost use Rattle.unit.specs.Units.{unit_of};
-ghost use Rattle.unit.specs.Read.{unit_read, word_is};
+ghost use Rattle.unit.specs.Read.{word_is};
 
-use crate::{IntervalUnit, UnitRead, WordRead, letters};
+use crate::{IntervalUnit, Word, letters};
 
 impl IntervalUnit {
-    pub fn from_str(word: &[u8]) -> UnitRead
-        ensures { unit_read result ≡ unit_of word.now }
+    pub fn from_str(word: &[u8]) -> Option<IntervalUnit>
+        ensures { result ≡ unit_of word.now }
     {
         let letters = letters::letters_at(word, 0);
-        let end = letters.end;
-        if end < word.len() {
-            return UnitRead::None;
+        if letters.end < word.len() {
+            return None;
         }
-        let key = letters.key;
-        letters::unit_of_key(key)
+        letters::unit_of_key(letters.key)
     }
 }
 
@@ -25,30 +23,29 @@ pub fn white_len(text: &[u8], at: usize) -> usize
     ensures { (result ≡ white_len (drop at text.now)) × (result ≤ length text.now - at) }
 {
     if text::byte_at(text, at) == b' ' {
-        return 1;
+        1
+    } else {
+        white::white_at(text, at)
     }
-    white::white_at(text, at)
 }
 
-// The unit of the word at a place: letters, behind which white space must follow, or nothing.
-pub fn word_at(text: &[u8], at: usize) -> WordRead
+// The unit of the word at a place: letters, behind which white space must follow, or nothing; the place where there is none.
+pub fn word_at(text: &[u8], at: usize) -> Result<Word, usize>
     ensures { word_is text.now at result }
 {
     if text.len() <= at {
-        return WordRead::None(at);
+        return Err(at);
     }
     let letters = letters::letters_at(text, at);
-    let key = letters.key;
-    let end = letters.end;
-    let UnitRead::Unit(unit) = letters::unit_of_key(key) else {
-        return WordRead::None(at);
+    let Some(unit) = letters::unit_of_key(letters.key) else {
+        return Err(at);
     };
-    if text.len() <= end {
-        return WordRead::Last(unit);
+    if text.len() <= letters.end {
+        return Ok(Word::Last(unit));
     }
-    let white = white_len(text, end);
+    let white = white_len(text, letters.end);
     if white == 0 {
-        return WordRead::None(at);
+        return Err(at);
     }
-    WordRead::More(unit, end + white)
+    Ok(Word::More(unit, letters.end + white))
 }

@@ -11,13 +11,13 @@ use lib.ListN.{length}
 use borrow.Author.Tests.{lt-ltb, le-ltb, ltb-true, ltb-false, le-leb, leb-true, leb-false}
 use Rattle.text.specs.Digits.{within}
 use Rattle.utf8.specs.declared.Follow.{Follow}
-use Rattle.utf8.specs.Utf8.{scalar, encode, Utf8, nothing, scalar_then, table, follows, well_formed, utf8}
+use Rattle.utf8.specs.Utf8.{scalar, encode, Utf8, nothing, scalar_then, table, following, follows, well_formed, utf8}
 use Rattle.text.proofs.Bools.{and_left, and_right, by_test, both_ways, within_yes, within_under, within_over, within_is}
-use Rattle.utf8.proofs.Utf8Rows.{bytes, row_00, row_80, row_c2, row_e0, row_e1, row_ed, row_ee, row_f0, row_f1, row_f4, row_f5}
+use Rattle.utf8.proofs.Utf8Rows.{row_00, row_80, row_c2, row_e0, row_e1, row_ed, row_ee, row_f0, row_f1, row_f4, row_f5}
 
 -- ---- what a character's bytes leave to read
 
-pub lead : (low high b : ℕ) (t : List ℕ) (n l h : ℕ) → follows table b ≡ bytes n l h → well_formed 0 low high (b ∷ t) ≡ well_formed n l h t
+pub lead : (low high b : ℕ) (t : List ℕ) (n l h : ℕ) → follows table b ≡ following n l h → well_formed 0 low high (b ∷ t) ≡ well_formed n l h t
 unfolding well_formed
 lead low high b t n l h e = ap (λ (f : Follow). well_formed f.count f.low f.high t) e
 
@@ -36,12 +36,12 @@ module _ (c : ℕ) (t : List ℕ) where
       rw (le-ltb c 0x80 p, lt-ltb c 0x800 q)
       (lead 0x80 0xBF (0xC0 + c / 64) _ 1 0x80 0xBF (row_c2 (0xC0 + c / 64) (omega arith) (omega arith)) ∙ more 0 0x80 0xBF (0x80 + c % 64) t (later c))
 
-  read_3 : (l h : ℕ) → 0x800 ≤ c → c < 0x10000 → follows table (0xE0 + c / 4096) ≡ bytes 2 l h → within l (0x80 + c / 64 % 64) h ≡ true → utf8 (encode c ++ t) ≡ utf8 t
+  read_3 : (l h : ℕ) → 0x800 ≤ c → c < 0x10000 → follows table (0xE0 + c / 4096) ≡ following 2 l h → within l (0x80 + c / 64 % 64) h ≡ true → utf8 (encode c ++ t) ≡ utf8 t
   read_3 l h p q e w =
       rw (le-ltb c 0x80 (omega arith), le-ltb c 0x800 p, lt-ltb c 0x10000 q)
       (lead 0x80 0xBF (0xE0 + c / 4096) _ 2 l h e ∙ more 1 l h (0x80 + c / 64 % 64) _ w ∙ more 0 0x80 0xBF (0x80 + c % 64) t (later c))
 
-  read_4 : (l h : ℕ) → 0x10000 ≤ c → follows table (0xF0 + c / 262144) ≡ bytes 3 l h → within l (0x80 + c / 4096 % 64) h ≡ true → utf8 (encode c ++ t) ≡ utf8 t
+  read_4 : (l h : ℕ) → 0x10000 ≤ c → follows table (0xF0 + c / 262144) ≡ following 3 l h → within l (0x80 + c / 4096 % 64) h ≡ true → utf8 (encode c ++ t) ≡ utf8 t
   read_4 l h p e w =
       rw (le-ltb c 0x80 (omega arith), le-ltb c 0x800 (omega arith), le-ltb c 0x10000 p)
       (
@@ -187,7 +187,7 @@ module _ (k b : ℕ) (shorter : (r : List ℕ) → length r ≤ k → utf8 r ≡
   -- which row b is in
   by_row : utf8 (b ∷ t) ≡ true → Utf8 (b ∷ t)
   by_row e =
-      let at : (n l h : ℕ) → follows table b ≡ bytes n l h → well_formed n l h t ≡ true = λ n l h r. sym (lead 0x80 0xBF b t n l h r) ∙ e in
+      let at : (n l h : ℕ) → follows table b ≡ following n l h → well_formed n l h t ≡ true = λ n l h r. sym (lead 0x80 0xBF b t n l h r) ∙ e in
       split b 0x80
       (λ p. sound_1 p (at 0 0x80 0xBF (row_00 b (omega arith))))
       (λ p. split b 0xC2

@@ -1,6 +1,6 @@
 -- Well-formed UTF-8, read byte by byte from the front. Assumes nothing.
 use mathlib.Core.Path.{◌≡◌, refl, sym}
-use mathlib.Core.Bool.{false}
+use mathlib.Core.Bool.{true, false}
 use mathlib.Core.List.{List, []}
 use Prim.Native.Nat.{ℕ, zero, suc, ◌+◌, ◌-◌, ◌≤◌, ◌<◌}
 use native.Mathlib.Omega.{arith}
@@ -9,9 +9,9 @@ use lib.Dec.{eqb}
 use lib.ListN.{get_or, length, drop, drop_of_length-le}
 use lib.Seq.{drop-cons}
 use borrow.Author.Tests.{ne_eqb}
+use Rattle.text.specs.Digits.{within}
 use Rattle.utf8.specs.Utf8.{table, follows, well_formed}
 use Rattle.utf8.specs.declared.Follow.{Follow}
-use Rattle.text.proofs.Bools.{within_yes, within_under, within_over}
 
 -- a first byte
 pub first : (s : List ℕ) (i n low high : ℕ) (f : Follow) → i < length s → n ≡ 0 → f ≡ follows table (get_or s i 0) → well_formed n low high (drop i s) ≡ well_formed f.count f.low f.high (drop (i + 1) s)
@@ -20,20 +20,15 @@ first s i n low high f h z e = rw (z, drop-cons s i 0 h, add-one, e)
 
 -- a later byte of a character, of which n are still to come
 module _ (s : List ℕ) (i low high : ℕ) (h : i < length s) where
-  pub next : (n : ℕ) → (n ≡ 0 → ⊥) → low ≤ get_or s i 0 → get_or s i 0 ≤ high → well_formed n low high (drop i s) ≡ well_formed (n - 1) 0x80 0xBF (drop (i + 1) s)
+  pub next : (n : ℕ) → (n ≡ 0 → ⊥) → within low (get_or s i 0) high ≡ true → well_formed n low high (drop i s) ≡ well_formed (n - 1) 0x80 0xBF (drop (i + 1) s)
   unfolding well_formed
-  next zero z p q = absurd (z refl)
-  next (suc n) z p q = rw (drop-cons s i 0 h, add-one, sub-one, within_yes low (get_or s i 0) high p q)
+  next zero z p = absurd (z refl)
+  next (suc n) z p = rw (drop-cons s i 0 h, add-one, sub-one, p)
 
-  pub below : (n : ℕ) → (n ≡ 0 → ⊥) → get_or s i 0 < low → well_formed n low high (drop i s) ≡ false
+  pub none : (n : ℕ) → (n ≡ 0 → ⊥) → within low (get_or s i 0) high ≡ false → well_formed n low high (drop i s) ≡ false
   unfolding well_formed
-  below zero z p = absurd (z refl)
-  below (suc n) z p = rw (drop-cons s i 0 h, within_under low (get_or s i 0) high p)
-
-  pub above : (n : ℕ) → (n ≡ 0 → ⊥) → high < get_or s i 0 → well_formed n low high (drop i s) ≡ false
-  unfolding well_formed
-  above zero z p = absurd (z refl)
-  above (suc n) z p = rw (drop-cons s i 0 h, within_over low (get_or s i 0) high p)
+  none zero z p = absurd (z refl)
+  none (suc n) z p = rw (drop-cons s i 0 h, p)
 
 -- the end of the text
 pub at_end : (s : List ℕ) (i n low high : ℕ) → length s ≤ i → well_formed n low high (drop i s) ≡ eqb n 0

@@ -39,10 +39,14 @@ table =
     row 0xF1 0xF3 3 0x80 0xBF ∷
     row 0xF4 0xF4 3 0x80 0x8F ∷ []
 
+-- so many bytes, the next from .. to ..
+abbrev pub following : (count low high : ℕ) → Follow
+following n l h = record { count = n; low = l; high = h }
+
 -- what must follow a first byte; after a byte that begins no character, a byte from 1 to 0, which there is not
 abbrev pub follows : List Row → ℕ → Follow
-follows [] b = record { count = 1; low = 1; high = 0 }
-follows (row first last n l h ∷ rows) b = cond (within first b last) (record { count = n; low = l; high = h }) (follows rows b)
+follows [] b = following 1 1 0
+follows (row first last n l h ∷ rows) b = cond (within first b last) (following n l h) (follows rows b)
 
 -- the rest of a text in which so many bytes of a character are still to come, the next from .. to ..
 unfoldable pub well_formed : (count low high : ℕ) → List ℕ → Bool

@@ -2,7 +2,8 @@
 #![tactic(auto)]
 
 ghost use Rattle.std.specs.Prelude.{◌≡◌};
-ghost use Rattle.utf8.specs.Utf8.{utf8, ascii};
+ghost use Rattle.text.specs.Digits.{within};
+ghost use Rattle.utf8.specs.Utf8.{following, utf8, ascii};
 
 mod rows;
 
@@ -14,26 +15,43 @@ pub struct Follow {
     pub high: u8,
 }
 
+impl Follow {
+    const fn new(count: u8, low: u8, high: u8) -> Follow
+        ensures { result ≡ following count low high }
+    {
+        Follow { count, low, high }
+    }
+
+    // So many bytes that are no second one.
+    const fn later(count: u8) -> Follow
+        ensures { result ≡ following count 0x80 0xBF }
+    {
+        Follow::new(count, 0x80, 0xBF)
+    }
+
+    // The byte may be the next.
+    fn takes(self, b: u8) -> bool
+        ensures { result ≡ within self.low b self.high }
+    {
+        self.low <= b && b <= self.high
+    }
+}
+
 // Rust's `str::from_utf8`, as a test. Nearly all texts are ASCII, which is quicker to tell.
 pub fn is_utf8(s: &[u8]) -> bool
     ensures { result ≡ utf8 s.now }
 {
-    if is_ascii(s) {
-        return true;
-    }
-    is_well_formed(s)
+    is_ascii(s) || is_well_formed(s)
 }
 
-// Rust's `is_ascii`.
+// Rust's `is_ascii`; of an `all` with a closure the search did not find the proof.
 pub fn is_ascii(s: &[u8]) -> bool
     ensures { result ≡ ascii s.now }
 {
-    let mut i = 0;
-    while i < s.len() {
-        if 0x80 <= s[i] {
+    for &b in s {
+        if 0x80 <= b {
             return false;
         }
-        i += 1;
     }
     true
 }
@@ -42,29 +60,15 @@ pub fn is_ascii(s: &[u8]) -> bool
 fn is_well_formed(s: &[u8]) -> bool
     ensures { result ≡ utf8 s.now }
 {
-    let mut count: u8 = 0;
-    let mut low: u8 = 0x80;
-    let mut high: u8 = 0xBF;
-    let mut i = 0;
-    while i < s.len() {
-        let b = s[i];
-        if count == 0 {
-            let f = rows::follow(b);
-            count = f.count;
-            low = f.low;
-            high = f.high;
+    let mut follow = Follow::later(0);
+    for &b in s {
+        if follow.count == 0 {
+            follow = rows::follow(b);
+        } else if follow.takes(b) {
+            follow = Follow::later(follow.count - 1);
         } else {
-            if b < low {
-                return false;
-            }
-            if high < b {
-                return false;
-            }
-            count -= 1;
-            low = 0x80;
-            high = 0xBF;
+            return false;
         }
-        i += 1;
     }
-    count == 0
+    follow.count == 0
 }

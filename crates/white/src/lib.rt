@@ -4,51 +4,55 @@
 ghost use Rattle.std.specs.Prelude.{◌≡◌, ◌-◌, ◌≤◌, length, drop};
 ghost use Rattle.white.specs.WhiteSpace.{white1, white2, white3, white_of, white_len};
 
+#[tactic(auto, unfolding(crate::specs::WhiteSpace::white1))]
 pub fn is_white1(b: u8) -> bool
     ensures { result ≡ white1 b }
 {
-    ((0x09 <= b) & (b <= 0x0D)) | (b == 0x20)
+    matches!(b, 0x09..=0x0D | 0x20)
 }
 
+#[tactic(auto, unfolding(crate::specs::WhiteSpace::white2))]
 pub fn is_white2(b: u8, c: u8) -> bool
     ensures { result ≡ white2 b c }
 {
-    (b == 0xC2) & ((c == 0x85) | (c == 0xA0))
+    matches!((b, c), (0xC2, 0x85 | 0xA0))
 }
 
+#[tactic(auto, unfolding(crate::specs::WhiteSpace::white3))]
 pub fn is_white3(b: u8, c: u8, d: u8) -> bool
     ensures { result ≡ white3 b c d }
 {
-    ((b == 0xE1) & ((c == 0x9A) & (d == 0x80)))
-        | ((b == 0xE2)
-            & (((c == 0x80)
-                & (((0x80 <= d) & (d <= 0x8A)) | (((0xA8 <= d) & (d <= 0xA9)) | (d == 0xAF))))
-                | ((c == 0x81) & (d == 0x9F))))
-        | ((b == 0xE3) & ((c == 0x80) & (d == 0x80)))
+    matches!(
+        (b, c, d),
+        (0xE1, 0x9A, 0x80)
+            | (0xE2, 0x80, 0x80..=0x8A | 0xA8..=0xA9 | 0xAF)
+            | (0xE2, 0x81, 0x9F)
+            | (0xE3, 0x80, 0x80)
+    )
 }
 
+#[tactic(auto, unfolding(crate::specs::WhiteSpace::white_of))]
 // The length of the white space character that three bytes begin with, 0 for none.
 pub fn white_of(b: u8, c: u8, d: u8) -> usize
     ensures { result ≡ white_of b c d }
 {
     if is_white1(b) {
-        return 1;
+        1
+    } else if is_white2(b, c) {
+        2
+    } else if is_white3(b, c, d) {
+        3
+    } else {
+        0
     }
-    if is_white2(b, c) {
-        return 2;
-    }
-    if is_white3(b, c, d) {
-        return 3;
-    }
-    0
 }
 
 // The length of the white space character at a place, 0 for none.
 pub fn white_at(s: &[u8], at: usize) -> usize
     ensures { (result ≡ white_len (drop at s.now)) × (result ≤ length s.now - at) }
 {
-    if s.len() <= at {
+    let Some(&b) = s.get(at) else {
         return 0;
-    }
-    white_of(s[at], text::byte_at(s, at + 1), text::byte_at(s, at + 2))
+    };
+    white_of(b, text::byte_at(s, at + 1), text::byte_at(s, at + 2))
 }

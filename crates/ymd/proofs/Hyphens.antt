@@ -1,63 +1,52 @@
--- The first hyphen from a place on, and the parts of a signed date that its hyphens make. Assumes nothing.
-use mathlib.Core.Path.{◌≡◌}
-use mathlib.Core.Bool.{true, false}
-use mathlib.Core.List.{List}
-use mathlib.Core.Option.{none}
-use Prim.Native.Nat.{ℕ, suc, ◌+◌, ◌-◌, ◌≤◌, ◌<◌}
+-- The parts of a signed date that its first hyphen makes. Assumes nothing.
+use mathlib.Core.Path.{◌≡◌, refl, sym}
+use mathlib.Core.Bool.{true, cond}
+use mathlib.Core.List.{List, [], ◌∷◌}
+use Rattle.std.specs.Prelude.{Option, None, Some}
+use Prim.Native.Nat.{ℕ, ◌+◌, ◌≤◌, ◌<◌}
 use native.Mathlib.Omega.{arith}
-use native.Mathlib.Numerals.{add-one}
-use lib.Dec.{leb}
-use lib.ListN.{get_or, length, take, drop, length-drop, drop_of_length-le}
-use lib.Seq.{drop-cons, drop-drop}
-use borrow.Author.Tests.{eq-eqb, ne_eqb, le-leb, lt-leb, lt-ltb, le-ltb}
+use lib.Dec.{leb, ltb}
+use lib.ListN.{length, take, drop, length-drop}
+use borrow.Author.Tests.{le-leb, lt-leb, lt-ltb, le-ltb, ltb-true, ltb-false}
+use Rattle.std.proofs.lemmas.Option.{cond_some}
 use Rattle.number.specs.Decimal.{integer}
-use Rattle.text.proofs.Bools.{and_false}
-use Rattle.ymd.specs.Forms.{to_hyphen, numbers, month_day, extended_ymd}
+use Rattle.text.proofs.Bools.{and_false, by_test}
+use Rattle.text.proofs.Logic.{none_some}
+use Rattle.ymd.specs.Forms.{to_hyphen, month_day, extended_ymd}
 
--- ---- from place i on
+-- the place of the first hyphen, if there is one
+abbrev pub hyphen : List ℕ → Option ℕ
+hyphen t = cond (ltb (to_hyphen t) (length t)) (Some (to_hyphen t)) None
 
-module _ (s : List ℕ) (i : ℕ) where
-  pub hyphen_here : i < length s → get_or s i 0 ≡ 0x2D → to_hyphen (drop i s) ≡ 0
-  unfolding to_hyphen
-  hyphen_here h e = rw (drop-cons s i 0 h, eq-eqb (get_or s i 0) 0x2D e)
+-- no year makes no date
+pub no_year : (n : ℕ) (t : List ℕ) → None ≡ month_day None n t
+no_year n t = by_test (ltb n (length t)) (λ e. rw e) (λ e. rw e)
 
-  pub hyphen_on : i < length s → (get_or s i 0 ≡ 0x2D → ⊥) → to_hyphen (drop i s) ≡ suc (to_hyphen (drop (i + 1) s))
-  unfolding to_hyphen
-  hyphen_on h e = rw (drop-cons s i 0 h, ne_eqb (get_or s i 0) 0x2D e, add-one)
-
-  pub no_hyphen : length s ≤ i → to_hyphen (drop i s) ≡ 0
-  unfolding to_hyphen
-  no_hyphen h = rw (drop_of_length-le s h)
-
--- ---- h is the place of the first hyphen behind the sign, and k of the next
-
-module _ (s : List ℕ) {h : ℕ} (eh : h ≡ 1 + to_hyphen (drop 1 s)) where
-  pub short_year : h < 5 → none ≡ extended_ymd s
+module _ (s : List ℕ) where
+  pub no_hyphen : None ≡ hyphen (drop 1 s) → None ≡ extended_ymd s
   unfolding extended_ymd
-  short_year l = rw (lt-leb 4 (to_hyphen (drop 1 s)) (omega arith))
+  no_hyphen e =
+      let n = to_hyphen (drop 1 s) in
+      by_test (ltb n (length (drop 1 s)))
+      (λ t. none_some (rw t at e))
+      (λ t. rw (le-ltb (n + 1) (length s) (omega (arith, ltb-false n (length (drop 1 s)) t, length-drop 1 s)), and_false (leb 4 n)))
 
-  pub one_hyphen_less : length s ≤ h → none ≡ extended_ymd s
-  unfolding extended_ymd
-  one_hyphen_less l =
-      rw (le-ltb (to_hyphen (drop 1 s) + 1) (length s) (omega arith), and_false (leb 4 (to_hyphen (drop 1 s))))
-
-  module _ (four : 5 ≤ h) (inside : h < length s) {k : ℕ} (ek : k ≡ h + 1 + to_hyphen (drop (h + 1) s)) where
-    -- the computation, by these places
-    by_places : extended_ymd s ≡ month_day (integer true 32 (take h s)) (k - (h + 1)) (drop (h + 1) s)
-    unfolding extended_ymd
-    by_places =
+  module _ {h : ℕ} (e : Some h ≡ hyphen (drop 1 s)) where
+    is_here : (to_hyphen (drop 1 s) ≡ h) × (h + 1 < length s)
+    is_here =
         let n = to_hyphen (drop 1 s) in
-        let eh1 : n + 1 ≡ h = omega arith in
-        let eh2 : n + 2 ≡ h + 1 = omega arith in
-        let ek1 : to_hyphen (drop (h + 1) s) ≡ k - (h + 1) = omega arith in
-        rw (le-leb 4 n (omega arith), lt-ltb (n + 1) (length s) (omega arith), eh1, eh2, ek1)
+        let r = cond_some (ltb n (length (drop 1 s))) n h (sym e) in
+        (r.1, omega (arith, ltb-true n (length (drop 1 s)) r.0, length-drop 1 s, r.1))
 
-    pub no_day : length s ≤ k → none ≡ extended_ymd s
-    no_day l = rw (by_places, le-ltb (k - (h + 1)) (length (drop (h + 1) s)) (omega (arith, length-drop (h + 1) s)))
+    pub short_year : h < 4 → None ≡ extended_ymd s
+    unfolding extended_ymd
+    short_year l = rw (is_here.0, lt-leb 4 h l)
 
-    pub in_parts :
-        k < length s →
-        numbers (integer true 32 (take h s)) (integer false 32 (take (k - (h + 1)) (drop (h + 1) s))) (integer false 32 (drop (k + 1) s)) ≡ extended_ymd s
-    in_parts l =
-        let e : h + 1 + (k - (h + 1) + 1) ≡ k + 1 = omega arith in
-        rw (by_places, lt-ltb (k - (h + 1)) (length (drop (h + 1) s)) (omega (arith, length-drop (h + 1) s)), drop-drop (k - (h + 1) + 1) (h + 1) s, e)
+    pub in_parts : 4 ≤ h → month_day (integer true 32 (take (h + 1) s)) (to_hyphen (drop (h + 2) s)) (drop (h + 2) s) ≡ extended_ymd s
+    unfolding extended_ymd
+    in_parts l = rw (is_here.0, le-leb 4 h l, lt-ltb (h + 1) (length s) is_here.1)
+
+pub no_text : (s : List ℕ) → length s < 1 → None ≡ extended_ymd s
+unfolding extended_ymd to_hyphen
+no_text [] l = refl
+no_text (b ∷ t) l = absurd (omega arith)

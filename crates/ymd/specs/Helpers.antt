@@ -1,11 +1,7 @@
--- What stands before the day of a date with hyphens, as a private function finds it. Assumes nothing.
-use Rattle.std.specs.Prelude.{◌≡◌, List, ℕ, ◌+◌, ◌*◌, ◌≤◌, ◌<◌, drop, pos}
-use Rattle.std.proofs.Math.Option.{none}
-use Rattle.ymd.specs.Forms.{last_day, hyphen_day}
-use Rattle.ymd.specs.declared.short.BeforeDay.{BeforeDay}
-use Rattle.ymd.specs.declared.short.BeforeDay.TheVariants.{At as DayAt, None as NoDay}
+-- The one or two digits that a text begins with, as a private function finds them. Assumes nothing.
+use Rattle.std.specs.Prelude.{cond, List, ℕ, get_or, drop, Option, None, Some}
+use Rattle.text.specs.Digits.{is_digit, worth, two_digits, two_at}
 
--- a day begins at a place of t, behind this century, year and month; or t has no such date
-abbrev pub before_is : List ℕ → BeforeDay → Type 0
-before_is t (DayAt at c y m) = ((at ≤ 8) × ((c < 100) × (y < 100))) × (last_day (pos (c * 100 + y)) m (drop at t) ≡ hyphen_day t)
-before_is t NoDay = none ≡ hyphen_day t
+-- their number, and what is behind them
+abbrev pub one_or_two : List ℕ → Option (ℕ × List ℕ)
+one_or_two t = cond (two_digits t 0) (Some (two_at t 0, drop 2 t)) (cond (is_digit (get_or t 0 0)) (Some (worth (get_or t 0 0), drop 1 t)) None)

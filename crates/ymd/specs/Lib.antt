@@ -1,5 +1,4 @@
--- What the contracts of `ymd` cite. To be believed: the forms, and what an answer says.
+-- What the contracts of `ymd` cite. To be believed: the forms.
 pub mod Forms
-pub mod Read
 -- What a private function finds; nothing above rests on it.
 pub mod Helpers

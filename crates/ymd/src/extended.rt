@@ -1,44 +1,23 @@
 // The parts of the signed form: its hyphens, and the numbers between them.
-ghost use Rattle.std.specs.Prelude.{◌≡◌, ◌+◌, ◌≤◌, length, drop};
-ghost use Rattle.std.proofs.Math.Option.{some};
-ghost use Rattle.number.specs.Widths.{int32, nat32};
-ghost use Rattle.ymd.specs.Forms.{to_hyphen, numbers};
-ghost use Rattle.ymd.specs.Read.{ymd_is};
+ghost use Rattle.std.specs.Prelude.{◌≡◌, if◌then◌else◌, ltb, length, Some, None};
+ghost use Rattle.ymd.specs.Forms.{to_hyphen, month_day};
 
 use crate::Ymd;
-use number::{Int32, Nat32};
+use number::parse::parse_u32;
 
-// The place of the first hyphen from a place on, or the end.
-pub fn find_hyphen(s: &[u8], from: usize) -> usize
-    ensures { (result ≡ from + to_hyphen (drop from s.now)) × (from ≤ length s.now → result ≤ length s.now) }
+// The place of the first hyphen.
+pub fn find_hyphen(s: &[u8]) -> Option<usize>
+    ensures { result ≡ (if ltb (to_hyphen s.now) (length s.now) then Some (to_hyphen s.now) else None) }
 {
-    let mut i = from;
-    while i < s.len() {
-        if s[i] == b'-' {
-            return i;
-        }
-        i += 1;
-    }
-    i
+    s.iter().position(|&b| b == b'-')
 }
 
-pub fn of_numbers(year: Int32, month: Nat32, day: Nat32) -> Ymd
-    ensures { ymd_is result ≡ numbers (int32 year) (nat32 month) (nat32 day) }
+// The date of a year, with a month and a day that the first hyphen parts.
+pub fn month_day(year: i32, s: &[u8]) -> Option<Ymd>
+    ensures { result ≡ month_day (Some year) (to_hyphen s.now) s.now }
 {
-    let Int32::Some(y) = year else {
-        return Ymd::None;
-    };
-    of_year(y, month, day)
-}
-
-fn of_year(y: i32, month: Nat32, day: Nat32) -> Ymd
-    ensures { ymd_is result ≡ numbers (some y) (nat32 month) (nat32 day) }
-{
-    let Nat32::Some(m) = month else {
-        return Ymd::None;
-    };
-    let Nat32::Some(d) = day else {
-        return Ymd::None;
-    };
-    Ymd::Of(y, m, d)
+    let hyphen = find_hyphen(s)?;
+    let month = parse_u32(&s[..hyphen])?;
+    let day = parse_u32(&s[hyphen + 1..])?;
+    Some(Ymd { year, month, day })
 }

@@ -1,108 +1,76 @@
 // The unsigned forms: without hyphens, and with them.
-ghost use Rattle.std.specs.Prelude.{◌≡◌, ◌+◌, ◌*◌, ◌<◌, ◌≤◌, drop, pos};
-ghost use Rattle.calendar.specs.Calendar.{civil, day};
-ghost use Rattle.calendar.specs.Cycle.{YearStarts};
+ghost use Rattle.std.specs.Prelude.{◌≡◌, if◌then◌else◌, option_map, pos, Some, None};
+ghost use Rattle.calendar.specs.Calendar.{civil};
 ghost use Rattle.clock.specs.Grammar.{no_digits};
-ghost use Rattle.ymd.specs.Helpers.{before_is};
-ghost use Rattle.ymd.specs.Forms.{compact_day, last_day, hyphen_day};
+ghost use Rattle.ymd.specs.Forms.{four_digits, four_at, compact_day, last_day, hyphen_day};
+ghost use Rattle.ymd.specs.Helpers.{one_or_two};
 
-use calendar::Day;
-use text::byte_at;
+use calendar::YearStarts;
 use text::digits::{HYPHEN, digit, two};
 
-// The place where a day begins, behind a century, a year and a month; or none.
-#[derive(Clone, Copy)]
-pub enum BeforeDay {
-    At(usize, u8, u8, u8),
-    None,
-}
-
 // yyyymmdd
-pub fn compact_day(starts: &[u32; 401], s: &[u8]) -> Day
-    requires { YearStarts starts.now }
-    ensures { day result ≡ compact_day s.now }
+pub fn compact_day(starts: &YearStarts, s: &[u8]) -> Option<i64>
+    ensures { result ≡ compact_day s.now }
 {
-    let century = two(s, 0);
-    let year = two(s, 2);
-    let month = two(s, 4);
-    let day_of_month = two(s, 6);
-    let shape = (s.len() == 8)
-        & (((century < 100) & (year < 100)) & ((month < 100) & (day_of_month < 100)));
-    if !shape {
-        return Day::None;
+    if s.len() != 8 {
+        return None;
     }
-    of_fields(starts, century, year, month, day_of_month)
+    of_fields(starts, four(s)?, two(s, 4)?, two(s, 6)?)
 }
 
-// yyyy-m-d, with one or two digits for the month and the day. `last_day` is called once, so that it is laid in here.
-pub fn hyphen_day(starts: &[u32; 401], s: &[u8]) -> Day
-    requires { YearStarts starts.now }
-    ensures { day result ≡ hyphen_day s.now }
+// yyyy-m-d, with one or two digits for the month and the day. The byte behind the year is seen to be a hyphen.
+pub fn hyphen_day(starts: &YearStarts, s: &[u8]) -> Option<i64>
+    ensures { result ≡ hyphen_day s.now }
 {
-    match before_day(s) {
-        BeforeDay::At(at, century, year, month) => last_day(starts, s, at, century, year, month),
-        BeforeDay::None => Day::None,
+    let year = four(s)?;
+    let (month, rest) = one_or_two(s.get(5..)?)?;
+    match rest {
+        [h, rest @ ..] if digit(*h) == HYPHEN => last_day(starts, year, month, rest),
+        _ => None,
     }
 }
 
-// What stands before the day of a date with hyphens.
-fn before_day(s: &[u8]) -> BeforeDay
-    ensures { before_is s.now result }
+// One or two digits, and no digit after them.
+fn last_day(starts: &YearStarts, year: u16, month: u8, s: &[u8]) -> Option<i64>
+    ensures { result ≡ last_day (pos year) month s.now }
 {
-    let century = two(s, 0);
-    let year = two(s, 2);
-    let four = (century < 100) & (year < 100);
-    let month = two(s, 5);
-    if four & ((month < 100) & (digit(byte_at(s, 7)) == HYPHEN)) {
-        return BeforeDay::At(8, century, year, month);
-    }
-    let one = digit(byte_at(s, 5));
-    if four & ((one < 10) & (digit(byte_at(s, 6)) == HYPHEN)) {
-        return BeforeDay::At(7, century, year, one);
-    }
-    BeforeDay::None
-}
-
-// One or two digits from a place on, and no digit after them.
-fn last_day(starts: &[u32; 401], s: &[u8], at: usize, century: u8, year: u8, month: u8) -> Day
-    requires year_starts { YearStarts starts.now }
-    requires at_bound { (at ≤ 8) × ((century < 100) × (year < 100)) }
-    ensures { day result ≡ last_day (pos (century * 100 + year)) month (drop at s.now) }
-{
-    let both = two(s, at);
-    if (both < 100) & no_digits(s, at + 2) {
-        return of_fields(starts, century, year, month, both);
-    }
-    let one = digit(byte_at(s, at));
-    if (one < 10) & no_digits(s, at + 1) {
-        return of_fields(starts, century, year, month, one);
-    }
-    Day::None
-}
-
-fn of_fields(starts: &[u32; 401], century: u8, year: u8, month: u8, day_of_month: u8) -> Day
-    requires year_starts { YearStarts starts.now }
-    requires century_bound { (century < 100) × (year < 100) }
-    ensures { day result ≡ civil (pos (century * 100 + year)) month day_of_month }
-{
-    let whole_year = century as u32 * 100 + year as u32;
-    // Taken apart and put together, since a copy of the whole would wait for the stores of its parts.
-    match calendar::days_from_ymd(starts, whole_year as i32, month as u32, day_of_month as u32) {
-        Day::Number(z) => Day::Number(z),
-        Day::None => Day::None,
+    let (day, rest) = one_or_two(s)?;
+    if no_digits(rest) {
+        of_fields(starts, year, month, day)
+    } else {
+        None
     }
 }
 
-// No byte from a place on is a digit.
-fn no_digits(s: &[u8], from: usize) -> bool
-    ensures { result ≡ no_digits (drop from s.now) }
+fn of_fields(starts: &YearStarts, year: u16, month: u8, day: u8) -> Option<i64>
+    ensures { result ≡ civil (pos year) month day }
 {
-    let mut i = from;
-    while i < s.len() {
-        if digit(s[i]) < 10 {
-            return false;
-        }
-        i += 1;
+    starts.days_from_ymd(year as i32, month as u32, day as u32)
+}
+
+// The year of four digits that a text begins with.
+fn four(s: &[u8]) -> Option<u16>
+    ensures { result ≡ (if four_digits s.now then Some (four_at s.now) else None) }
+{
+    Some(two(s, 0)? as u16 * 100 + two(s, 2)? as u16)
+}
+
+// The number of the one or two digits that a text begins with, and what is behind them.
+fn one_or_two(s: &[u8]) -> Option<(u8, &[u8])>
+    ensures { option_map (λ x. (x.0, x.1.now)) result ≡ one_or_two s.now }
+{
+    match two(s, 0) {
+        Some(both) => Some((both, &s[2..])),
+        None => match s {
+            [one, rest @ ..] if digit(*one) < 10 => Some((digit(*one), rest)),
+            _ => None,
+        },
     }
-    true
+}
+
+// No byte is a digit.
+fn no_digits(s: &[u8]) -> bool
+    ensures { result ≡ no_digits s.now }
+{
+    s.iter().all(|&b| 10 <= digit(b))
 }

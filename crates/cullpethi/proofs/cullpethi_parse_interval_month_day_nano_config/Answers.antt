@@ -1,6 +1,6 @@
 -- `cullpethi::cullpethi_parse_interval_month_day_nano_config` meets its contract: the outcome in the unit and its place are told, or 255. Assumes nothing.
 use mathlib.Core.Path.{refl, sym, ap, ◌∙◌}
-use mathlib.Core.Option.{Option}
+use Rattle.std.specs.Prelude.{Option}
 use Rattle.unit.specs.Read.{unit_read}
 use Rattle.unit.specs.declared.IntervalUnit.{IntervalUnit}
 use Rattle.rule.specs.Contribution.{counts}

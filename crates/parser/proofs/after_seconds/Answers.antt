@@ -1,23 +1,14 @@
--- `parser::after_seconds` meets its contract, by the laws of what follows the seconds. Assumes nothing.
-use mathlib.Core.Path.{◌∙◌}
-use native.Mathlib.Omega.{arith}
+-- `parser::after_seconds` meets its contract behind a point and digits. Assumes nothing.
+use Rattle.std.proofs.Common.{ap, arith, sym, ◌∙◌, drop, ◌+◌}
+use Rattle.std.specs.Prelude.{option_map}
 use Rattle.text.proofs.Parts.{rest}
-use Rattle.parser.proofs.Fractions.{no_point, point_alone, fraction}
+use Rattle.clock.specs.Clock.{nanos_of_day}
+use Rattle.parser.proofs.Fractions.{timed_at_lem, fraction}
 use Rattle.parser.proofs.after_seconds.Goals as goal
 
-pub returns-then-digit-ne-POINT : goal.returns-then-digit-ne-POINT
-returns-then-digit-ne-POINT c =
-    c.at.ensures ∙
-    no_point c.args.s.now (λ i. (c.type_inv.s i).fits) c.digit.ensures c.byte_at.ensures c.args.hour c.args.minute c.args.second
-    c.if-digit-ne-POINT.true
-
-pub returns-then-fraction-eq0 : goal.returns-then-fraction-eq0
-returns-then-fraction-eq0 c =
-    point_alone c.args.s.now (λ i. (c.type_inv.s i).fits) c.digit.ensures c.byte_at.ensures c.args.hour c.args.minute c.args.second
-    c.if-digit-ne-POINT.false (omega (arith, rw (rest c.args.s.now 20) at c.parse_nanos-fraction.ensures.2, c.if-fraction-eq0.true))
-
 pub returns : goal.returns
-returns c =
-    c.at-2.ensures ∙
-    fraction c.args.s.now (λ i. (c.type_inv.s i).fits) c.digit.ensures c.byte_at.ensures c.args.hour c.args.minute c.args.second
-    c.if-digit-ne-POINT.false (rw (rest c.args.s.now 20) at c.parse_nanos-fraction.ensures.2) c.if-fraction-eq0.false (rw (rest c.args.s.now 20) at c.parse_nanos-fraction.ensures.0)
+returns c = let s = c.args.s.now in let t = c.args.t in
+    let f = c.parse_nanos-fraction in
+    timed_at_lem t.hour t.minute t.second f.result.nanos (drop (20 + f.result.digits) s) f.ensures.1 (ap (option_map nanos_of_day) (sym c.in_ok-time.was) ∙ c.from_hms_nano-2.ensures) ∙
+    fraction s (c.type_inv.s 19).fits (rw c.byte_at.ensures at c.digit.ensures) c.if-digit-ne-POINT.false t.hour t.minute t.second
+    (rw (rest s 20) at f.ensures.2) (λ e. omega (arith, e)) (rw (rest s 20) at f.ensures.0)

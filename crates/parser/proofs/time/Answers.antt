@@ -1,22 +1,21 @@
--- `parser::time` meets its contract, by the laws of a time with colons and of one cut short. Assumes nothing.
-use mathlib.Core.Path.{◌∙◌}
-use Rattle.parser.proofs.Times.{no_colons, with_colons, short_of_colons, short_of_time}
+-- `parser::time` meets its contract, by what is known where colons are read and where they are not. Assumes nothing.
+use Rattle.std.proofs.Common.{drop, sym}
+use lib.Seq.{drop-drop}
+use Rattle.std.proofs.lemmas.Option.{cond_some, none-some}
+use Rattle.text.proofs.Bools.{by_test}
+use Rattle.stamp_text.specs.Answer.{has_colons, time_of}
 use Rattle.parser.proofs.time.Goals as goal
 
-pub returns-then-s-lt17 : goal.returns-then-s-lt17
-returns-then-s-lt17 c = short_of_time c.args.s.now c.if-s-lt17.true
+pub returns-in-Some : goal.returns-in-Some
+unfolding time_of
+returns-in-Some c =
+    let s = c.args.s.now in
+    let r = cond_some (has_colons (drop 11 s)) _ c.in-Some.fields (sym c.in-Some.ensures) in
+    rw (r.0, drop-drop 8 11 s) (rw (← r.1) at c.after_seconds.ensures)
 
-pub returns-then-s-lt19 : goal.returns-then-s-lt19
-returns-then-s-lt19 c = c.basic.ensures ∙ short_of_colons c.args.s.now c.if-s-lt19.true
-
-pub returns-then-not-colons : goal.returns-then-not-colons
-returns-then-not-colons c =
-    c.basic-then-not-colons.ensures ∙
-    no_colons c.args.s.now (λ i. (c.type_inv.s i).fits) c.two-hour.ensures c.digit.ensures c.two-minute.ensures c.digit-2.ensures
-    c.two-second.ensures c.if-not-colons.true-raw
-
-pub returns : goal.returns
-returns c =
-    c.after_seconds.ensures ∙
-    with_colons c.args.s.now (λ i. (c.type_inv.s i).fits) c.two-hour.ensures c.digit.ensures c.two-minute.ensures c.digit-2.ensures
-    c.two-second.ensures c.if-not-colons.false-raw
+pub returns-in-None : goal.returns-in-None
+unfolding time_of
+returns-in-None c =
+    by_test (has_colons (drop 11 c.args.s.now))
+    (λ e. absurd (none-some _ (rw e at c.in-None.ensures)))
+    (λ e. rw e c.basic.ensures)

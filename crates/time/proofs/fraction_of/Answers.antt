@@ -1,22 +1,16 @@
 -- `time::fraction_of` meets its contract, by the laws of what follows the seconds. Assumes nothing.
-use Prim.Native.Nat.{◌+◌}
+use native.Mathlib.Omega.{arith}
 use Rattle.text.proofs.Parts.{rest}
-use Rattle.time.proofs.Fractions.{no_fraction, no_point, point_alone, bytes_after, whole_fraction}
+use Rattle.time.proofs.Fractions.{no_fraction, whole_fraction}
 use Rattle.time.proofs.fraction_of.Goals as goal
 
-pub returns-then-s-at : goal.returns-then-s-at
-returns-then-s-at c = no_fraction c.args.s.now c.args.at c.if-s-at.true
+pub returns-then-fraction-eq0-clause-value : goal.returns-then-fraction-eq0-clause-value
+returns-then-fraction-eq0-clause-value c = let r = rw (rest c.args.s.now 1) at c.parse_nanos-fraction.ensures in
+    let e = rw (rest c.args.s.now 1) at c.then-fraction-eq0.either in
+    no_fraction c.args.s.now c.in-len1-up.len_at_least (λ h. omega (arith, e, r.2))
 
-pub returns-then-digit : goal.returns-then-digit
-returns-then-digit c = no_point c.args.s.now c.args.at c.if-s-at.false (c.type_inv.s c.args.at).fits c.digit.ensures c.if-digit.true
-
-pub returns-then-fraction-eq0 : goal.returns-then-fraction-eq0
-returns-then-fraction-eq0 c = point_alone c.args.s.now c.args.at c.if-s-at.false (rw (rest c.args.s.now (c.args.at + 1)) at c.parse_nanos-fraction.ensures.2) c.if-fraction-eq0.true
-
-pub returns-then-fraction-s : goal.returns-then-fraction-s
-returns-then-fraction-s c = bytes_after c.args.s.now c.args.at c.if-s-at.false (rw (rest c.args.s.now (c.args.at + 1)) at c.parse_nanos-fraction.ensures.2) c.if-fraction-s.true
-
-pub returns : goal.returns
-returns c = let r = rw (rest c.args.s.now (c.args.at + 1)) at c.parse_nanos-fraction.ensures in
-    whole_fraction c.args.s.now c.args.at c.if-s-at.false (c.type_inv.s c.args.at).fits c.digit.ensures
-    c.if-digit.false r.2 r.3 c.if-fraction-eq0.false c.if-fraction-s.false r.0
+pub returns-clause-value : goal.returns-clause-value
+returns-clause-value c = let r = rw (rest c.args.s.now 1) at c.parse_nanos-fraction.ensures in
+    let e = rw (rest c.args.s.now 1) at c.if-fraction-digits.false in
+    rw r.0
+    (whole_fraction c.args.s.now (c.type_inv.s 0).fits (rw c.digit.ensures at c.if-digit.false) (omega (arith, r.2, c.if-fraction-eq0.false)) (omega (arith, e, r.2)))

@@ -1,6 +1,6 @@
 -- `time_column::parse_integer` meets its contract: 64 bits, or 32 widened. Assumes nothing.
 use mathlib.Core.Path.{sym, ap, ◌∙◌}
-use mathlib.Core.Option.{some}
+use Rattle.std.specs.Prelude.{Some}
 use borrow.Author.Rules.{rules}
 use Rattle.number.specs.Widths.{int32}
 use mir.Syntax.{w32, w64}
@@ -17,7 +17,7 @@ overflow_cast-result c = widens {w = w32} {v = w64} {a = c.in-Some.z} (record { 
 
 pub returns-in-Some : goal.returns-in-Some
 returns-in-Some c = let f : SFits w32 c.in-Some.z = record { sfits = (search rules) } in
-    rw c.if-wide.false (ap some (cast_is f (sfits_widen {w = w32} {w' = w64} tt f)) ∙ sym (ap int32 c.in-Some.is) ∙ c.parse_i32.ensures)
+    rw c.if-wide.false (ap Some (cast_is f (sfits_widen {w = w32} {w' = w64} tt f)) ∙ sym (ap int32 c.in-Some.is) ∙ c.parse_i32.ensures)
 
 pub returns-in-None : goal.returns-in-None
 returns-in-None c = rw c.if-wide.false (sym (ap int32 c.in-None.is) ∙ c.parse_i32.ensures)

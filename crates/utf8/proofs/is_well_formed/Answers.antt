@@ -1,24 +1,19 @@
 use mathlib.Core.Path.{sym, ◌∙◌}
-use native.Mathlib.Omega.{arith}
-use Rattle.utf8.proofs.Utf8Steps.{first, next, below, above, at_end}
+use Rattle.utf8.proofs.Utf8Steps.{first, next, none, at_end}
 use Rattle.utf8.proofs.is_well_formed.Goals as goal
-use Rattle.utf8.proofs.is_well_formed.Goals.{then-count-eq0, else-count-eq0+else-b-low+else-high-b}
+use Rattle.utf8.proofs.is_well_formed.Goals.{then-follow-eq0, else-follow-eq0+then-takes}
 
-pub returns-then-b-low : goal.returns-then-b-low
-returns-then-b-low c = sym (below c.args.s.now c.loop-i.i c.loop-i.low c.loop-i.high c.loop-i-test.true c.loop-i.count c.if-count-eq0.false c.if-b-low.true) ∙ c.loop-i.invariant.1
+pub returns-else-takes : goal.returns-else-takes
+returns-else-takes c = sym (none c.args.s.now c.loop-b.b-index c.loop-b.follow.low c.loop-b.follow.high c.loop-b-test.true c.loop-b.follow.count c.if-follow-eq0.false (sym c.takes.ensures ∙ c.if-takes.false)) ∙ c.loop-b.invariant
 
-pub returns-then-high-b : goal.returns-then-high-b
-returns-then-high-b c = sym (above c.args.s.now c.loop-i.i c.loop-i.low c.loop-i.high c.loop-i-test.true c.loop-i.count c.if-count-eq0.false c.if-high-b.true) ∙ c.loop-i.invariant.1
-
-pub loop-i-preserved : goal.loop-i-preserved
-loop-i-preserved c = let s = c.args.s.now in
-    let h = c.loop-i-test.true in (
-      omega arith,
-      elim c.if-count-eq0.branch [
-        | then-count-eq0 w ↦ rw (w.count-is, w.low-is, w.high-is) (sym (first s c.loop-i.i c.loop-i.count c.loop-i.low c.loop-i.high w.follow-f.result h w.if-count-eq0.true w.follow-f.ensures) ∙ c.loop-i.invariant.1)
-        | else-count-eq0+else-b-low+else-high-b w ↦ rw (w.count-is, w.low-is, w.high-is) (sym (next s c.loop-i.i c.loop-i.low c.loop-i.high h c.loop-i.count w.if-count-eq0.false w.if-b-low.false w.if-high-b.false) ∙ c.loop-i.invariant.1)
-      ],
-    )
+pub loop-b-preserved : goal.loop-b-preserved
+loop-b-preserved c = let s = c.args.s.now in
+    let f = c.loop-b.follow in
+    let h = c.loop-b-test.true in
+    elim c.if-follow-eq0.branch [
+      | then-follow-eq0 w ↦ rw w.follow-is (sym (first s c.loop-b.b-index f.count f.low f.high w.follow-follow.result h w.if-follow-eq0.true w.follow-follow.ensures) ∙ c.loop-b.invariant)
+      | else-follow-eq0+then-takes w ↦ rw (w.follow-is, w.later-follow-then-takes.ensures) (sym (next s c.loop-b.b-index f.low f.high h f.count w.if-follow-eq0.false (sym w.takes.ensures ∙ w.if-takes.true)) ∙ c.loop-b.invariant)
+    ]
 
 pub returns : goal.returns
-returns c = sym (at_end c.args.s.now c.loop-i.i c.loop-i.count c.loop-i.low c.loop-i.high c.loop-i-test.false) ∙ c.loop-i.invariant.1
+returns c = sym (at_end c.args.s.now c.loop-b.b-index c.loop-b.follow.count c.loop-b.follow.low c.loop-b.follow.high c.loop-b-test.false) ∙ c.loop-b.invariant

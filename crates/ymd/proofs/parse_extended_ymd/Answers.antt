@@ -1,27 +1,35 @@
--- `ymd::parse_extended_ymd` meets its contract, by the laws of the parts between hyphens. Assumes nothing.
-use mathlib.Core.Path.{sym, ◌∙◌}
-use Prim.Native.Nat.{◌+◌}
+-- `ymd::parse_extended_ymd` meets its contract, by the laws of the first hyphen. Assumes nothing.
+use mathlib.Core.Path.{◌≡◌, ◌∙◌}
 use native.Mathlib.Omega.{arith}
-use lib.Seq.{length-take-le}
+use Prim.Native.Nat.{◌+◌}
+use lib.ListN.{drop}
+use borrow.Author.Rules.{rules}
+use mir.Syntax.{w32}
+use mir.Facts.{to_z-of_z}
 use Rattle.text.proofs.Parts.{rest}
-use Rattle.ymd.proofs.Hyphens.{short_year, one_hyphen_less, no_day, in_parts}
+use Rattle.ymd.proofs.Hyphens.{no_text, no_year, no_hyphen, short_year, in_parts}
 use Rattle.ymd.proofs.parse_extended_ymd.Goals as goal
 
-pub returns-then-hyphen-lt5 : goal.returns-then-hyphen-lt5
-returns-then-hyphen-lt5 c = short_year c.args.s.now c.find_hyphen-hyphen.ensures.0 c.if-hyphen-lt5.true
+pub returns-in_err-get : goal.returns-in_err-get
+returns-in_err-get c = c.from_residual.ensures ∙ no_text c.args.s.now (omega (arith, c.in_err-get.ensures.lookup.0))
 
-pub returns-then-s-hyphen : goal.returns-then-s-hyphen
-returns-then-s-hyphen c = one_hyphen_less c.args.s.now c.find_hyphen-hyphen.ensures.0 c.if-s-hyphen.true
+pub returns-in_err-hyphen : goal.returns-in_err-hyphen
+returns-in_err-hyphen c = let s = c.args.s.now in
+    let u : c.in_ok-get.field-0.now ≡ drop 1 s = c.in_ok-get.ensures.lookup.0.2 ∙ rest s 1 in
+    c.from_residual-in_err-hyphen.ensures ∙ no_hyphen s (rw u at c.in_err-hyphen.ensures)
 
-pub returns-then-s-next : goal.returns-then-s-next
-returns-then-s-next c = no_day c.args.s.now c.find_hyphen-hyphen.ensures.0 c.if-hyphen-lt5.false c.if-s-hyphen.false
-    c.find_hyphen-next.ensures.0 c.if-s-next.true
+pub returns-then-hyphen-lt4 : goal.returns-then-hyphen-lt4
+returns-then-hyphen-lt4 c = let s = c.args.s.now in
+    let u : c.in_ok-get.field-0.now ≡ drop 1 s = c.in_ok-get.ensures.lookup.0.2 ∙ rest s 1 in
+    short_year s (rw u at c.in_ok-hyphen.ensures) c.if-hyphen-lt4.true
 
-pub slice_bounds-parse_i32-end : goal.slice_bounds-parse_i32-end
-slice_bounds-parse_i32-end c = sym (length-take-le _ c.before.args.s.now (omega arith))
+pub returns-in_err-year : goal.returns-in_err-year
+returns-in_err-year c = let s = c.args.s.now in
+    let u : c.in_ok-get.field-0.now ≡ drop 1 s = c.in_ok-get.ensures.lookup.0.2 ∙ rest s 1 in
+    c.from_residual-in_err-year.ensures ∙ no_year _ _ ∙ rw (← c.in_err-year.ensures) at (in_parts s (rw u at c.in_ok-hyphen.ensures) c.if-hyphen-lt4.false)
 
 pub returns : goal.returns
-returns c = let s = c.before.args.s.now in
-    c.of_numbers.ensures ∙
-    rw (c.parse_i32.ensures, c.parse_u32.ensures, c.parse_u32-2.ensures, rest s (c.find_hyphen-next.result + 1))
-    (in_parts s c.find_hyphen-hyphen.ensures.0 c.if-hyphen-lt5.false c.if-s-hyphen.false c.find_hyphen-next.ensures.0 c.if-s-next.false)
+returns c = let s = c.args.s.now in
+    let u : c.in_ok-get.field-0.now ≡ drop 1 s = c.in_ok-get.ensures.lookup.0.2 ∙ rest s 1 in
+    rw (rest s (c.in_ok-hyphen.hyphen + 2), to_z-of_z {w = w32} {z = c.in_ok-year.year} (record { sfits = (search rules) })) at c.month_day.ensures ∙
+    rw (← c.in_ok-year.ensures) at (in_parts s (rw u at c.in_ok-hyphen.ensures) c.if-hyphen-lt4.false)

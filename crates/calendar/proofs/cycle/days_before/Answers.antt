@@ -1,7 +1,6 @@
 -- `calendar::cycle::days_before` meets its contract, by the formula for the days before a month. Assumes nothing.
-use mathlib.Core.Bool.{true, false}
-use native.Mathlib.Omega.{arith}
-use borrow.Author.Tests.{le-leb, lt-leb}
+use Rattle.std.proofs.Common.{arith, le-leb, true, false}
+use borrow.Author.Tests.{lt-leb}
 use Rattle.calendar.proofs.Months.{formula}
 use Rattle.calendar.proofs.cycle.days_before.Goals as goal
 

@@ -10,16 +10,16 @@ pub returns-then-text-end : goal.returns-then-text-end
 unfolding piece_is
 returns-then-text-end c = alone c.args.text.now c.args.at c.args.amount c.args.end c.requires c.if-text-end.true
 
-pub returns-in-None : goal.returns-in-None
+pub returns-in-Ok-Last : goal.returns-in-Ok-Last
 unfolding piece_is word_is
-returns-in-None c = let n = rw c.in-None.is at c.word_at.ensures in
-    rw (c.bad_unit.ensures, n.1) (no_unit_here c.args.text.now c.args.at c.args.amount c.args.end c.requires c.if-text-end.false c.white_len.result (c.args.end + c.white_len.result) c.white_len.ensures.0 refl n.0, no_unit_place c.args.text.now c.args.at c.args.amount c.args.end c.requires c.if-text-end.false c.white_len.result (c.args.end + c.white_len.result) c.white_len.ensures.0 refl)
-
-pub returns-in-Last : goal.returns-in-Last
-unfolding piece_is word_is
-returns-in-Last c = let u = rw c.in-Last.is at c.word_at.ensures in
+returns-in-Ok-Last c = let u = rw c.in-Ok-Last.field-0-is at c.in-Ok-Last.ensures in
     unit_ends c.args.text.now c.args.at c.args.amount c.args.end c.requires c.if-text-end.false c.white_len.result (c.args.end + c.white_len.result) c.white_len.ensures.0 refl u.0 u.1
 
-pub returns-in-More : goal.returns-in-More
+pub returns-in-Ok-More : goal.returns-in-Ok-More
 unfolding piece_is word_is
-returns-in-More c = unit_goes_on c.args.text.now c.args.at c.args.amount c.args.end c.requires c.if-text-end.false c.white_len.result (c.args.end + c.white_len.result) c.white_len.ensures.0 refl (rw c.in-More.is at c.word_at.ensures)
+returns-in-Ok-More c = unit_goes_on c.args.text.now c.args.at c.args.amount c.args.end c.requires c.if-text-end.false c.white_len.result (c.args.end + c.white_len.result) c.white_len.ensures.0 refl (rw c.in-Ok-More.field-0-is at c.in-Ok-More.ensures)
+
+pub returns-in-Err : goal.returns-in-Err
+unfolding piece_is word_is
+returns-in-Err c = let n = c.in-Err.ensures in
+    rw (c.bad_unit.ensures, n.1) (no_unit_here c.args.text.now c.args.at c.args.amount c.args.end c.requires c.if-text-end.false c.white_len.result (c.args.end + c.white_len.result) c.white_len.ensures.0 refl n.0, no_unit_place c.args.text.now c.args.at c.args.amount c.args.end c.requires c.if-text-end.false c.white_len.result (c.args.end + c.white_len.result) c.white_len.ensures.0 refl)

@@ -1,7 +1,7 @@
 -- `parse_column::numbers::column_numbered` meets its contract: each arm is a place of the list, and the rest is past its end. Assumes nothing.
 use mathlib.Core.Path.{sym, ap}
 use mathlib.Core.List.{map}
-use mathlib.Core.Option.{none, some}
+use Rattle.std.specs.Prelude.{None, Some}
 use Prim.Native.Nat.{◌≤◌}
 use native.Mathlib.Omega.{arith}
 use lib.ListN.{get_or-eq_default}
@@ -43,4 +43,4 @@ returns-in_default c = let n = c.args.number in
     let r = c.in_default.in_default-own.rest in
     let s = r.0.0.0.0.0 in
     let some_left : 5 ≤ n = omega (arith, s.1, s.0.1, s.0.0.1, s.0.0.0.1, s.0.0.0.0.1) in
-    sym (get_or-eq_default (map some columns) none {n = n} (omega (arith, some_left, r.1, r.0.1, r.0.0.1, r.0.0.0.1, r.0.0.0.0.1)))
+    sym (get_or-eq_default (map Some columns) None {n = n} (omega (arith, some_left, r.1, r.0.1, r.0.0.1, r.0.0.0.1, r.0.0.0.0.1)))

@@ -1,14 +1,13 @@
-use Rattle.std.proofs.Common.{arith, rules}
-use Rattle.text.proofs.DigitLaws.{run_on, run_off, run_end}
+use Rattle.std.proofs.Common.{rules, arith, length-drop}
+use Rattle.text.proofs.DigitLaws.{run_end}
+use Rattle.text.proofs.Parts.{rest}
 use Rattle.text.proofs.digits.run_end.Goals as goal
 
-pub returns-then-digit-ge10 : goal.returns-then-digit-ge10
-returns-then-digit-ge10 c = let s = c.args.s.now in
-    (omega (arith, run_off s c.loop-i.i c.digit.result c.loop-i-test.true (c.type_inv.s c.loop-i.i).fits c.digit.ensures c.if-digit-ge10.true), c.loop-i.invariant.1)
+pub overflow_add-result : goal.overflow_add-result
+overflow_add-result c = search (rules, length-drop)
 
-pub loop-i-preserved : goal.loop-i-preserved
-loop-i-preserved c = let s = c.args.s.now in
-    (search rules, λ h. omega arith, omega (arith, run_on s c.loop-i.i c.digit.result c.loop-i-test.true (c.type_inv.s c.loop-i.i).fits c.digit.ensures c.if-digit-ge10.false))
+pub returns-then-from-s : goal.returns-then-from-s
+returns-then-from-s c = search (rules, length-drop, rest c.args.s.now c.args.from)
 
-pub returns : goal.returns
-returns c = (omega (arith, run_end c.args.s.now c.loop-i.i c.loop-i-test.false), c.loop-i.invariant.1)
+pub returns-else-from-s : goal.returns-else-from-s
+returns-else-from-s c = (omega (arith, run_end c.args.s.now c.args.from c.if-from-s.false), λ h. h)

@@ -1,10 +1,10 @@
 -- `text::trim::trim_ascii_start` meets its contract. The loop's invariant: what is left is trimmed to what the whole is. Assumes nothing.
-use Rattle.std.proofs.Common.{◌≡◌, ◌-◌, ◌≤◌, length, drop}
+use Rattle.std.proofs.Common.{◌≡◌, length}
 use Rattle.text.specs.Trim.{trim_start}
 use Rattle.text.proofs.trim.trim_ascii_start.Given as goal
 
-abbrev pub invariant-loop-i : goal.invariant-loop-i
-invariant-loop-i l = (l.i ≤ length l.s) × (trim_start (drop l.i l.s) ≡ trim_start l.s)
+abbrev pub invariant-loop-rest : goal.invariant-loop-rest
+invariant-loop-rest l = trim_start l.rest ≡ trim_start l.s
 
-abbrev pub decreases-loop-i : goal.decreases-loop-i
-decreases-loop-i l = length l.s - l.i
+abbrev pub decreases-loop-rest : goal.decreases-loop-rest
+decreases-loop-rest l = length l.rest

@@ -5,8 +5,8 @@ use lib.ListN.{length, take, drop}
 use Rattle.unit.specs.Keys.{Packed}
 use Rattle.unit.proofs.letters.letters_at.Given as goal
 
-abbrev pub invariant-loop-i : goal.invariant-loop-i
-invariant-loop-i l = (l.from ≤ l.i) × (l.i ≤ length l.text) × (l.key < 1152921504606846976) × Packed (take (l.i - l.from) (drop l.from l.text)) l.key
+abbrev pub invariant-loop-letter : goal.invariant-loop-letter
+invariant-loop-letter l = (l.from ≤ l.end) × (l.end ≤ length l.text) × (l.key < 1152921504606846976) × Packed (take (l.end - l.from) (drop l.from l.text)) l.key
 
-abbrev pub decreases-loop-i : goal.decreases-loop-i
-decreases-loop-i l = length l.text - l.i
+abbrev pub decreases-loop-letter : goal.decreases-loop-letter
+decreases-loop-letter l = length l.text - l.end

@@ -1,20 +1,14 @@
 -- `ymd::short::last_day` meets its contract, by the laws of the last digits. Assumes nothing.
-use mathlib.Core.Path.{ap, ◌∙◌}
-use Prim.Native.Nat.{◌+◌, ◌*◌}
+use mathlib.Core.Path.{sym, ◌∙◌}
 use lib.IntN.{pos}
-use Rattle.text.specs.Digits.{digit_of}
-use Rattle.ymd.proofs.Shapes.{two_last, one_last, no_last}
+use Rattle.calendar.specs.Calendar.{civil}
+use Rattle.ymd.proofs.Shapes.{ended_here}
 use Rattle.ymd.proofs.short.last_day.Goals as goal
 
-pub returns-then-both-no_digits : goal.returns-then-both-no_digits
-returns-then-both-no_digits c = c.of_fields.ensures ∙
-    two_last c.args.s.now c.args.at c.two-both.ensures c.no_digits.ensures (pos (c.args.century * 100 + c.args.year)) c.args.month c.if-both-no_digits.true
+pub returns-then-no_digits : goal.returns-then-no_digits
+returns-then-no_digits c = c.of_fields.ensures ∙
+    rw (sym c.no_digits.ensures ∙ c.if-no_digits.true) at (ended_here (civil (pos c.args.year) c.args.month) c.args.s.now c.in_ok-day.ensures)
 
-pub returns-then-one-no_digits : goal.returns-then-one-no_digits
-returns-then-one-no_digits c = c.of_fields-then-one-no_digits.ensures ∙
-    one_last c.args.s.now c.args.at c.two-both.ensures c.no_digits.ensures (pos (c.args.century * 100 + c.args.year)) c.args.month c.if-both-no_digits.false
-    (c.type_inv.s c.args.at).fits (c.digit-one.ensures ∙ ap digit_of c.byte_at.ensures) c.no_digits-2.ensures c.if-one-no_digits.true
-
-pub returns : goal.returns
-returns c = no_last c.args.s.now c.args.at c.two-both.ensures c.no_digits.ensures (pos (c.args.century * 100 + c.args.year)) c.args.month c.if-both-no_digits.false
-    (c.type_inv.s c.args.at).fits (c.digit-one.ensures ∙ ap digit_of c.byte_at.ensures) c.no_digits-2.ensures c.if-one-no_digits.false
+pub returns-else-no_digits : goal.returns-else-no_digits
+returns-else-no_digits c =
+    rw (sym c.no_digits.ensures ∙ c.if-no_digits.false) at (ended_here (civil (pos c.args.year) c.args.month) c.args.s.now c.in_ok-day.ensures)

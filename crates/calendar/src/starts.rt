@@ -1,0 +1,60 @@
+// The table of year starts: the caller of a reader of dates makes it, and lends it to all that reads a date.
+ghost use Rattle.std.specs.Prelude.{◌≡◌, ◌<◌, pos};
+ghost use Rattle.calendar.specs.Calendar.{civil, year_days};
+ghost use Rattle.calendar.specs.Cycle.{start, AreYearStarts};
+
+use crate::cycle;
+
+#[derive(Drop)]
+pub struct YearStarts {
+    days: [u32; 401],
+    ghost table: { AreYearStarts days },
+}
+
+// A year of the cycle: the day that it starts on, and its days.
+#[derive(Clone, Copy)]
+pub struct Year {
+    pub start: u32,
+    pub days: u32,
+}
+
+impl YearStarts {
+    pub fn new() -> YearStarts {
+        YearStarts {
+            days: cycle::STARTS,
+        }
+    }
+
+    // chrono's `NaiveDate::from_ymd_opt` and the days to it, for every year of 32 signed bits: the day number, counted from 1970-01-01,
+    // which may need more than 32 bits. None where the calendar has no such day.
+    pub fn days_from_ymd(&self, year: i32, month: u32, day_of_month: u32) -> Option<i64>
+        ensures { result ≡ civil year month day_of_month }
+    {
+        if month < 1 || 12 < month || day_of_month < 1 {
+            return None;
+        }
+        let n = cycle::counted(year);
+        let y = self.year_of_cycle((n % 400) as usize);
+        let leap = y.days == 366;
+        let before = cycle::days_before(leap, month);
+        let next = cycle::days_before(leap, month + 1);
+        if next - before < day_of_month {
+            return None;
+        }
+        let u = n / 400 * 146_097 + y.start as u64 + before as u64 + (day_of_month - 1) as u64;
+        Some(u as i64 - cycle::EPOCH)
+    }
+
+    // A year of the cycle, from the table: its start, and its days up to the next start.
+    fn year_of_cycle(&self, y: usize) -> Year
+        requires { y < 400 }
+        ensures { (result.start ≡ start y) × (result.days ≡ year_days (pos y)) }
+    {
+        let start = self.days[y];
+        let end = self.days[y + 1];
+        Year {
+            start,
+            days: end - start,
+        }
+    }
+}

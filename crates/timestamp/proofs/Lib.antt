@@ -1,3 +1,0 @@
--- Laws that belong to no one function.
-pub mod Endings
-pub mod Outcomes
