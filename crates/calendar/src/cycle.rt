@@ -49,6 +49,7 @@ pub fn counted(year: i32) -> u64
 }
 
 // The days of the year before a month, 13 being the next January.
+#[tactic(auto, using(crate::proofs::Months::formula))]
 pub fn days_before(leap: bool, month: u32) -> u32
     requires { (1 ≤ month) × (month < 14) }
     ensures { result ≡ before leap month }

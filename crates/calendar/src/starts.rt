@@ -46,6 +46,7 @@ impl YearStarts {
     }
 
     // A year of the cycle, from the table: its start, and its days up to the next start.
+    #[tactic(auto, using(crate::proofs::Years::year_after))]
     fn year_of_cycle(&self, y: usize) -> Year
         requires { y < 400 }
         ensures { (result.start ≡ start y) × (result.days ≡ year_days (pos y)) }

@@ -44,7 +44,7 @@ pub fn parse_nanos(s: &[u8]) -> Secfrac
     }
 }
 
-// Ten to the places that i digits leave of nine.
+// Ten to the places that i digits leave of nine. By a table, since `pow` would multiply in a loop.
 fn scale(i: usize) -> u32
     requires { i < 9 }
     ensures { result ≡ 10 ^ (9 - i) }

@@ -3,7 +3,7 @@
 #![tactic(auto)]
 
 // Document 01's ten, in the order of their numbers.
-#[derive(Clone, Copy)]
+#[derive(Clone, Copy, Debug, PartialEq, Eq)]
 pub enum Column {
     TimestampNanosecond,
     TimestampMicrosecond,

@@ -1,5 +1,4 @@
 -- Laws that belong to no one function.
 pub mod Agreement
 pub mod Bounds
-pub mod Outcomes
 pub mod Refusals

@@ -9,7 +9,7 @@ use native.Mathlib.Omega.{arith}
 use lib.Dec.{eqb, leb, lit<}
 use lib.ListN.{length, get_or}
 use lib.IntN.{ℤ}
-use borrow.Author.Tests.{eqb-true, leb-true, leb-false}
+use borrow.Author.Tests.{eqb-true, leb-true, leb-false, le-leb, lt-leb}
 use Rattle.number.specs.Widths.{in_signed}
 use Rattle.refusal.specs.Outcome.{Outcome, accepted, refused, in_utf8, and_then}
 use Rattle.utf8.specs.Utf8.{utf8}
@@ -24,8 +24,26 @@ use Rattle.stamp_text.proofs.Refusals.{refusals as stamp_refusals}
 use Rattle.date.specs.Grammar.{plus, minus, NamesDay, DateForm, with_sign, within_ten, Refuses, not_utf8, no_date, as_stamp, out_of_range}
 use Rattle.date.specs.Answer.{is_sign, signed_day, on_day, plain_day, day_named, in_days, date_days}
 use Rattle.ymd.specs.Forms.{short_day}
-use Rattle.date.proofs.Outcomes.{signed_form, short_form, stamp_form, its_day}
 use Rattle.date.proofs.Agreement.{agrees}
+
+-- ---- the three forms
+
+-- the day of a moment
+abbrev its_day : Outcome Moment → Outcome ℤ
+its_day o = and_then o (λ x. accepted x.day)
+
+module _ (s : List ℕ) where
+  signed_form : is_sign (get_or s 0 0) ≡ true → on_day (signed_day s) ≡ plain_day s
+  unfolding plain_day
+  signed_form e = rw e
+
+  short_form : is_sign (get_or s 0 0) ≡ false → length s ≤ 10 → on_day (short_day s) ≡ plain_day s
+  unfolding plain_day
+  short_form e l = rw (e, le-leb (length s) 10 l)
+
+  stamp_form : is_sign (get_or s 0 0) ≡ false → 10 < length s → its_day (datetime s) ≡ day_named s
+  unfolding plain_day
+  stamp_form e l = rw (e, lt-leb (length s) 10 l) (by_test (utf8 s) (λ u. rw u) (λ u. rw u))
 
 -- ---- texts that are read as dates
 

@@ -3,11 +3,10 @@
 use Rattle.std.specs.Prelude.{Bool, cond, ◌||◌, List, ℕ, eqb, leb, length, get_or, ℤ, Option, None, Some}
 use Rattle.calendar.specs.Calendar.{civil}
 use Rattle.number.specs.Widths.{in_signed}
-use Rattle.refusal.specs.Outcome.{Outcome, accepted, refused, because, in_utf8, and_then}
+use Rattle.refusal.specs.Outcome.{Outcome, accepted, refused, in_utf8, and_then}
 use Rattle.stamp_text.specs.Answer.{plain_moment}
-use Rattle.ymd.specs.Forms.{Numbers, extended_ymd, short_day}
-use Rattle.date.specs.declared.Named.{Named}
-use Rattle.date.specs.declared.Named.TheVariants.{Day as NamedDay, Refused as NamedRefused}
+use Rattle.ymd.specs.declared.Ymd.{Ymd}
+use Rattle.ymd.specs.Forms.{extended_ymd, short_day}
 
 abbrev pub is_sign : ℕ → Bool
 is_sign b = eqb b 0x2B || eqb b 0x2D
@@ -15,7 +14,7 @@ is_sign b = eqb b 0x2B || eqb b 0x2D
 -- ---- the signed form
 
 -- the day with these numbers, if the calendar has it
-abbrev pub day_with : Option Numbers → Option ℤ
+abbrev pub day_with : Option Ymd → Option ℤ
 day_with None = None
 day_with (Some x) = civil x.year x.month x.day
 
@@ -46,9 +45,3 @@ in_days z = cond (in_signed 31 z) (accepted z) (refused 6)
 -- days since 1970-01-01
 abbrev pub date_days : List ℕ → Outcome ℤ
 date_days t = and_then (day_named t) in_days
-
--- ---- what the answers of the code say
-
-abbrev pub named_is : Named → Outcome ℤ
-named_is (NamedDay z) = accepted z
-named_is (NamedRefused why) = because why

@@ -3,20 +3,19 @@
 
 ghost use Rattle.std.specs.Prelude.{◌≡◌, ◌≤◌, length, pos, ◌*ℤ◌};
 ghost use Rattle.std.specs.Int.Signed.{mag};
-ghost use Rattle.calendar.specs.Cycle.{YearStarts};
 ghost use Rattle.date.specs.Answer.{day_named};
 ghost use Rattle.number.specs.Widths.{floor};
-ghost use Rattle.refusal.specs.Outcome.{accepted, and_then, outcome32, outcome64};
+ghost use Rattle.refusal.specs.Outcome.{accepted, and_then, outcome};
 ghost use Rattle.stamp_text.specs.Answer.{datetime};
 ghost use Rattle.datetime.specs.Moment.{moment_of, instant};
 ghost use Rattle.clock.specs.Clock.{nanos_of_day};
 ghost use Rattle.date_column.specs.Answer.{millis, date32, date64};
 
-use date::{Named, days};
+use calendar::YearStarts;
+use date::days::{parse_date, parse_date_to_days};
 use datetime::NaiveDateTime;
-use refusal::{Read32, Read64};
+use refusal::Refusal;
 use text::trim::trim_pre_and_post_whitespace;
-use timestamp::DateTime;
 use timestamp::stamp::string_to_datetime;
 
 #[derive(Clone, Copy)]
@@ -26,36 +25,31 @@ pub struct Date32Type {}
 pub struct Date64Type {}
 
 impl Date32Type {
-    pub fn parse(s: &[u8]) -> Read32
-        ensures { outcome32 result ≡ date32 s.now }
+    pub fn parse(s: &[u8]) -> Result<i32, Refusal>
+        ensures { outcome result ≡ date32 s.now }
     {
-        let starts = calendar::year_starts();
-        Date32Type::parse_with(&starts, s)
+        Date32Type::parse_with(&YearStarts::new(), s)
     }
 
-    pub fn parse_with(starts: &[u32; 401], s: &[u8]) -> Read32
-        requires { YearStarts starts.now }
-        ensures { outcome32 result ≡ date32 s.now }
+    // The days of the text as given, then of the trimmed text.
+    pub fn parse_with(starts: &YearStarts, s: &[u8]) -> Result<i32, Refusal>
+        ensures { outcome result ≡ date32 s.now }
     {
-        match days::parse_date_to_days(starts, s) {
-            Read32::Value(z) => Read32::Value(z),
-            Read32::Refused(_) => days::parse_date_to_days(starts, trim_pre_and_post_whitespace(s)),
-        }
+        parse_date_to_days(starts, s)
+            .or_else(|_| parse_date_to_days(starts, trim_pre_and_post_whitespace(s)))
     }
 }
 
 impl Date64Type {
-    pub fn parse(s: &[u8]) -> Read64
-        ensures { outcome64 result ≡ date64 s.now }
+    pub fn parse(s: &[u8]) -> Result<i64, Refusal>
+        ensures { outcome result ≡ date64 s.now }
     {
-        let starts = calendar::year_starts();
-        Date64Type::parse_with(&starts, s)
+        Date64Type::parse_with(&YearStarts::new(), s)
     }
 
     // A date up to 10 bytes, a stamp beyond that; never trimmed.
-    pub fn parse_with(starts: &[u32; 401], s: &[u8]) -> Read64
-        requires { YearStarts starts.now }
-        ensures { outcome64 result ≡ date64 s.now }
+    pub fn parse_with(starts: &YearStarts, s: &[u8]) -> Result<i64, Refusal>
+        ensures { outcome result ≡ date64 s.now }
     {
         if s.len() <= 10 {
             day_millis(starts, s)
@@ -65,25 +59,17 @@ impl Date64Type {
     }
 }
 
-fn day_millis(starts: &[u32; 401], s: &[u8]) -> Read64
-    requires year_starts { YearStarts starts.now }
-    requires s_len_bound { length s.now ≤ 10 }
-    ensures { outcome64 result ≡ and_then (day_named s.now) (λ z. accepted (z *ℤ pos 86400000)) }
+fn day_millis(starts: &YearStarts, s: &[u8]) -> Result<i64, Refusal>
+    requires { length s.now ≤ 10 }
+    ensures { outcome result ≡ and_then (day_named s.now) (λ z. accepted (z *ℤ pos 86400000)) }
 {
-    match days::parse_date(starts, s) {
-        Named::Day(day) => Read64::Value(day * 86_400_000),
-        Named::Refused(why) => Read64::Refused(why),
-    }
+    Ok(parse_date(starts, s)? * 86_400_000)
 }
 
-fn stamp_millis(starts: &[u32; 401], s: &[u8]) -> Read64
-    requires { YearStarts starts.now }
-    ensures { outcome64 result ≡ and_then (datetime s.now) (λ m. millis (instant m)) }
+fn stamp_millis(starts: &YearStarts, s: &[u8]) -> Result<i64, Refusal>
+    ensures { outcome result ≡ and_then (datetime s.now) (λ m. millis (instant m)) }
 {
-    match string_to_datetime(starts, s) {
-        DateTime::At(x) => Read64::Value(timestamp_millis(x)),
-        DateTime::Refused(why) => Read64::Refused(why),
-    }
+    Ok(timestamp_millis(string_to_datetime(starts, s)?))
 }
 
 // Milliseconds of a day and a time of it, rounded down; the nanoseconds need not fit 64 bits.

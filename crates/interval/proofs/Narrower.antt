@@ -1,7 +1,8 @@
 -- The narrowed forms as the code makes them: months alone, and days with milliseconds. Assumes nothing.
 use mathlib.Core.Path.{◌≡◌, refl, sym, ap, ◌∙◌}
 use mathlib.Core.Bool.{true, false}
-use Rattle.std.specs.Prelude.{Option, None, Some}
+use Rattle.std.specs.Prelude.{Option, None, Some, option_map, Result, Ok, Err}
+use Rattle.std.specs.Option.{ok_or}
 use Rattle.std.proofs.lemmas.Option.{none-some}
 use mathlib.Core.List.{List}
 use Prim.Native.Nat.{ℕ, suc, ◌%◌, ◌^◌}
@@ -22,9 +23,16 @@ use Rattle.number.proofs.Quotients.{quot_fits}
 use Rattle.number.proofs.Sizes.{small_fits}
 use Rattle.refusal.specs.Outcome.{Outcome, accepted, refused}
 use Rattle.unit.specs.declared.IntervalUnit.{IntervalUnit}
+use Rattle.place.specs.Read.{place_in}
+use Rattle.place.specs.declared.IntervalRefusal.{IntervalRefusal}
+use Rattle.place.specs.declared.IntervalRefusal.TheVariants.{Narrowed}
 use Rattle.place.specs.Place.{Place}
 use Rattle.place.specs.Where.{place}
 use Rattle.place.proofs.Placing.{placed}
+use Rattle.rule.specs.Meaning.{day_time_of}
+use Rattle.total.specs.Read.{counts_of, interval_outcome, place_read}
+use Rattle.total.specs.declared.Interval.{Interval}
+use Rattle.interval.specs.Read.{outcome_by}
 use Rattle.rule.specs.Contribution.{Counts, counts}
 use Rattle.rule.specs.Answer.{to_year_months, day_time_fits, to_day_time, or_narrowed, narrowed}
 use Rattle.interval.specs.Helpers.{in_days, in_millis, day_time_if}
@@ -37,17 +45,32 @@ with_place m e = (m.0, (m.1, (e, placed e)))
 -- ---- narrowed by f: a value, none, or a refusal that stands
 
 module _ {A : Type 0} (f : Counts → Option A) {o : Outcome Counts} where
-  pub narrows_to : {c : Counts} {v : A} → o ≡ accepted c → Some v ≡ f c → accepted v ≡ narrowed f o
+  narrows_to : {c : Counts} {v : A} → o ≡ accepted c → Some v ≡ f c → accepted v ≡ narrowed f o
   unfolding narrowed or_narrowed
   narrows_to e h = rw (e, ← h)
 
-  pub narrows_none : {c : Counts} → o ≡ accepted c → None ≡ f c → refused 11 ≡ narrowed f o
+  narrows_none : {c : Counts} → o ≡ accepted c → None ≡ f c → refused 11 ≡ narrowed f o
   unfolding narrowed or_narrowed
   narrows_none e h = rw (e, ← h)
 
-  pub narrows_refused : {k : ℕ} → o ≡ refused k → refused k ≡ narrowed f o
+  -- what the code makes of an interval i, by g, where q is what f makes of it
+  pub narrows : {B : Type 0} (g : B → A) {r : Result Interval IntervalRefusal} {i : Interval} → r ≡ Ok i → interval_outcome r ≡ o → (q : Option B) → option_map g q ≡ f (counts_of i) → outcome_by g (ok_or q Narrowed) ≡ narrowed f o
+  narrows g e h None k = narrows_none (sym (rw e at h)) k
+  narrows g e h (Some v) k = narrows_to (sym (rw e at h)) k
+
+  -- a refusal stands
+  pub narrows_refused : {B : Type 0} (g : B → A) (why : IntervalRefusal) {r : Result Interval IntervalRefusal} → r ≡ Err why → interval_outcome r ≡ o → outcome_by g (Err why) ≡ narrowed f o
   unfolding narrowed
-  narrows_refused e = rw e
+  narrows_refused g why e h = rw (sym (rw e at h))
+
+-- neither what fits nor 11 has a place, and a refusal keeps its own
+module _ {r : Result Interval IntervalRefusal} {p : Option ℕ} where
+  pub no_place : {i : Interval} → r ≡ Ok i → place_read r ≡ p → {B : Type 0} (q : Option B) → place_read (ok_or q Narrowed) ≡ p
+  no_place e h None = rw e at h
+  no_place e h (Some v) = rw e at h
+
+  pub same_place : (why : IntervalRefusal) → r ≡ Err why → place_read r ≡ p → place_in why ≡ p
+  same_place why e h = rw e at h
 
 -- ---- tests for 0, which compare bits
 
@@ -124,7 +147,7 @@ module _ {n : ℤ} (f : SFits w64 n) where
 
 -- ---- days and milliseconds
 
-pub both : (m d n : ℤ) → day_time_if (in_days m d) (in_millis n) ≡ to_day_time (counts m d n)
+both : (m d n : ℤ) → day_time_if (in_days m d) (in_millis n) ≡ to_day_time (counts m d n)
 unfolding day_time_if in_days in_millis to_day_time day_time_fits
 both m d n =
     by_test (in_signed 31 (m *ℤ pos 30))
@@ -134,3 +157,22 @@ both m d n =
     (λ r. rw (p, q, r)))
     (λ q. rw (p, q)))
     (λ p. rw p)
+
+-- the same where the code finds them
+
+if_none : (o : Option ℤ) → day_time_if o None ≡ None
+unfolding day_time_if
+if_none None = refl
+if_none (Some d) = refl
+
+module _ (m d n : ℤ) where
+  pub day_time_both : {x y : ℤ} → Some x ≡ in_days m d → Some y ≡ in_millis n → Some (day_time_of x y) ≡ to_day_time (counts m d n)
+  unfolding day_time_if
+  day_time_both e f = rw (← e, ← f) at (both m d n)
+
+  pub day_time_no_days : None ≡ in_days m d → None ≡ to_day_time (counts m d n)
+  unfolding day_time_if
+  day_time_no_days e = rw (← e) at (both m d n)
+
+  pub day_time_no_millis : None ≡ in_millis n → None ≡ to_day_time (counts m d n)
+  day_time_no_millis e = rw (← e, if_none (in_days m d)) at (both m d n)

@@ -11,80 +11,47 @@ ghost use Rattle.place.specs.Where.{place};
 ghost use Rattle.total.specs.Read.{interval_outcome, place_read};
 ghost use Rattle.interval.specs.Read.{year_month_outcome, year_month_place, day_time_outcome, day_time_place};
 
-use count::{Days, MaybeMonths, Millis, Months};
+use count::{Days, Millis, Months};
 use place::IntervalRefusal;
-use total::{Interval, IntervalParseConfig, IntervalRead};
+use total::{Interval, IntervalParseConfig};
 use unit::IntervalUnit;
 
 mod narrow;
 
 // Days and milliseconds.
-#[derive(Clone, Copy)]
+#[derive(Clone, Copy, Debug, PartialEq, Eq)]
 pub struct IntervalDayTime {
     pub days: Days,
     pub millis: Millis,
 }
 
-// Days and milliseconds, or none.
-#[derive(Clone, Copy)]
-pub enum MaybeDayTime {
-    Some(IntervalDayTime),
-    None,
-}
-
-// A reader's answer of months.
-#[derive(Clone, Copy)]
-pub enum YearMonthRead {
-    Value(Months),
-    Refused(IntervalRefusal),
-}
-
-// A reader's answer of days and milliseconds.
-#[derive(Clone, Copy)]
-pub enum DayTimeRead {
-    Value(IntervalDayTime),
-    Refused(IntervalRefusal),
-}
-
 // Months alone; a unit that is left out is the year.
-pub fn parse_interval_year_month(value: &[u8]) -> YearMonthRead
+pub fn parse_interval_year_month(value: &[u8]) -> Result<Months, IntervalRefusal>
     ensures computed { year_month_outcome result ≡ year_month precision value.now }
     ensures meant { Narrows YearMonths precision Year value.now (year_month_outcome result) }
     ensures place { year_month_place result ≡ place precision Year value.now }
     ensures placed { Place precision Year value.now (year_month_place result) }
 {
-    let config = IntervalParseConfig::new(IntervalUnit::Year);
-    match Interval::parse(value, config) {
-        IntervalRead::Value(interval) => match narrow::to_year_months(interval) {
-            MaybeMonths::Some(months) => YearMonthRead::Value(months),
-            MaybeMonths::None => YearMonthRead::Refused(IntervalRefusal::Narrowed),
-        },
-        IntervalRead::Refused(why) => YearMonthRead::Refused(why),
-    }
+    let interval = Interval::parse(value, IntervalParseConfig::new(IntervalUnit::Year))?;
+    narrow::to_year_months(interval).ok_or(IntervalRefusal::Narrowed)
 }
 
 // Days and milliseconds; a unit that is left out is the day.
-pub fn parse_interval_day_time(value: &[u8]) -> DayTimeRead
+pub fn parse_interval_day_time(value: &[u8]) -> Result<IntervalDayTime, IntervalRefusal>
     ensures computed { day_time_outcome result ≡ day_time precision value.now }
     ensures meant { Narrows DayTimes precision Day value.now (day_time_outcome result) }
     ensures place { day_time_place result ≡ place precision Day value.now }
     ensures placed { Place precision Day value.now (day_time_place result) }
 {
-    let config = IntervalParseConfig::new(IntervalUnit::Day);
-    match Interval::parse(value, config) {
-        IntervalRead::Value(interval) => match narrow::to_day_time(interval) {
-            MaybeDayTime::Some(both) => DayTimeRead::Value(both),
-            MaybeDayTime::None => DayTimeRead::Refused(IntervalRefusal::Narrowed),
-        },
-        IntervalRead::Refused(why) => DayTimeRead::Refused(why),
-    }
+    let interval = Interval::parse(value, IntervalParseConfig::new(IntervalUnit::Day))?;
+    narrow::to_day_time(interval).ok_or(IntervalRefusal::Narrowed)
 }
 
 // Months, days and nanoseconds; the caller says which unit may be left out.
 pub fn parse_interval_month_day_nano_config(
     value: &[u8],
     config: IntervalParseConfig,
-) -> IntervalRead
+) -> Result<Interval, IntervalRefusal>
     ensures computed { interval_outcome result ≡ month_day_nano precision config.default_unit value.now }
     ensures meant { Means precision config.default_unit value.now (interval_outcome result) }
     ensures place { place_read result ≡ place precision config.default_unit value.now }
@@ -94,7 +61,7 @@ pub fn parse_interval_month_day_nano_config(
 }
 
 // The same; a unit that is left out is the month.
-pub fn parse_interval_month_day_nano(value: &[u8]) -> IntervalRead
+pub fn parse_interval_month_day_nano(value: &[u8]) -> Result<Interval, IntervalRefusal>
     ensures computed { interval_outcome result ≡ plain_month_day_nano precision value.now }
     ensures meant { Means precision Month value.now (interval_outcome result) }
     ensures place { place_read result ≡ place precision Month value.now }

@@ -1,57 +1,48 @@
 // The site stamp: `2026-03-01T06:30:00Z`, with a point and 1 to 9 digits behind the seconds if need be.
 #![tactic(auto)]
 
-ghost use Rattle.std.specs.Prelude.{◌≡◌, cond};
-ghost use Rattle.calendar.specs.Cycle.{YearStarts};
-ghost use Rattle.refusal.specs.Outcome.{accepted, refused, outcome64};
+ghost use Rattle.std.specs.Prelude.{◌≡◌};
+ghost use Rattle.refusal.specs.Outcome.{outcome};
 ghost use Rattle.site.specs.Site.{is_site, site_nanos};
 
-use refusal::{Read64, Refusal};
-use text::digits::{CAPITAL_T, CAPITAL_Z, COLON, digit, two};
+use calendar::YearStarts;
+use refusal::Refusal;
+use text::digits::{CAPITAL_T, CAPITAL_Z, digit};
 use timestamp::stamp;
 
 // The plain reader's value, if the text is a site stamp.
-pub fn site_stamp(s: &[u8]) -> Read64
-    ensures { outcome64 result ≡ site_nanos s.now }
+pub fn site_stamp(s: &[u8]) -> Result<i64, Refusal>
+    ensures { outcome result ≡ site_nanos s.now }
 {
-    let starts = calendar::year_starts();
-    site_stamp_with(&starts, s)
+    site_stamp_with(&YearStarts::new(), s)
 }
 
 // The same with the table of year starts lent.
-pub fn site_stamp_with(starts: &[u32; 401], s: &[u8]) -> Read64
-    requires { YearStarts starts.now }
-    ensures { outcome64 result ≡ site_nanos s.now }
+pub fn site_stamp_with(starts: &YearStarts, s: &[u8]) -> Result<i64, Refusal>
+    ensures { outcome result ≡ site_nanos s.now }
 {
-    match stamp::string_to_timestamp_nanos_with(starts, s) {
-        Read64::Value(z) => on_site(s, z),
-        Read64::Refused(why) => Read64::Refused(why),
-    }
-}
-
-fn on_site(s: &[u8], z: i64) -> Read64
-    ensures { outcome64 result ≡ cond (is_site s.now) (accepted z) (refused 12) }
-{
+    let z = stamp::string_to_timestamp_nanos_with(starts, s)?;
     if is_site(s) {
-        Read64::Value(z)
+        Ok(z)
     } else {
-        Read64::Refused(Refusal::SiteStamp)
+        Err(Refusal::SiteStamp)
     }
 }
 
 // Of a text that the plain reader accepts: whether it is a site stamp.
+#[tactic(auto, unfolding(crate::specs::Site::is_site))]
 fn is_site(s: &[u8]) -> bool
     ensures { result ≡ is_site s.now }
 {
+    let Some(t) = parser::with_colons(s) else {
+        return false;
+    };
     let n = s.len();
-    if n < 19 {
+    if 30 < n {
         return false;
     }
-    let hour = two(s, 11);
-    let minute = two(s, 14);
-    let second = two(s, 17);
-    let colons = (hour < 100)
-        & ((digit(s[13]) == COLON) & ((minute < 100) & ((digit(s[16]) == COLON) & (second < 100))));
-    let leap = (second != 60) | ((hour == 23) & (minute == 59));
-    (digit(s[10]) == CAPITAL_T) & (colons & ((n <= 30) & ((digit(s[n - 1]) == CAPITAL_Z) & leap)))
+    if digit(s[10]) != CAPITAL_T || digit(s[n - 1]) != CAPITAL_Z {
+        return false;
+    }
+    t.second != 60 || t.hour == 23 && t.minute == 59
 }

@@ -1,105 +1,55 @@
-// Timestamp columns: nanoseconds divided toward zero. Each `parse` makes the table of year starts and lends it to its `parse_with`.
+// Timestamp columns: nanoseconds divided toward zero. `parse` makes the table of year starts and lends it to `parse_with`.
 #![tactic(auto)]
 
 ghost use Rattle.std.specs.Prelude.{◌≡◌};
-ghost use Rattle.calendar.specs.Cycle.{YearStarts};
 ghost use Rattle.refusal.specs.Attempts.{retried};
-ghost use Rattle.refusal.specs.Outcome.{outcome64};
+ghost use Rattle.refusal.specs.Outcome.{outcome};
 ghost use Rattle.stamp_text.specs.Answer.{stamp_nanos};
 ghost use Rattle.stamp_column.specs.Answer.{timestamp_column};
 
-use refusal::Read64;
+use calendar::YearStarts;
+use refusal::Refusal;
+use std::marker::PhantomData;
 use text::trim::trim_pre_and_post_whitespace;
 use timestamp::stamp::string_to_timestamp_nanos_with;
+use units::{Microsecond, Millisecond, Nanosecond, Second, TimeUnit};
 
-mod units;
+pub mod units;
 
+// A timestamp column, by its unit.
 #[derive(Clone, Copy)]
-pub struct TimestampNanosecondType {}
+pub struct TimestampType<U> {
+    unit: PhantomData<U>,
+}
 
-#[derive(Clone, Copy)]
-pub struct TimestampMicrosecondType {}
+pub type TimestampNanosecondType = TimestampType<Nanosecond>;
 
-#[derive(Clone, Copy)]
-pub struct TimestampMillisecondType {}
+pub type TimestampMicrosecondType = TimestampType<Microsecond>;
 
-#[derive(Clone, Copy)]
-pub struct TimestampSecondType {}
+pub type TimestampMillisecondType = TimestampType<Millisecond>;
+
+pub type TimestampSecondType = TimestampType<Second>;
+
+impl<U: TimeUnit> TimestampType<U> {
+    pub fn parse(s: &[u8]) -> Result<i64, Refusal>
+        ensures { outcome result ≡ timestamp_column U.NANOS s.now }
+    {
+        TimestampType::<U>::parse_with(&YearStarts::new(), s)
+    }
+
+    pub fn parse_with(starts: &YearStarts, s: &[u8]) -> Result<i64, Refusal>
+        ensures { outcome result ≡ timestamp_column U.NANOS s.now }
+    {
+        Ok(nanos(starts, s)? / U::NANOS as i64)
+    }
+}
 
 // The nanoseconds of the text as given, then of the trimmed text.
-fn nanos(starts: &[u32; 401], s: &[u8]) -> Read64
-    requires { YearStarts starts.now }
-    ensures { outcome64 result ≡ retried stamp_nanos s.now }
+fn nanos(starts: &YearStarts, s: &[u8]) -> Result<i64, Refusal>
+    ensures { outcome result ≡ retried stamp_nanos s.now }
 {
-    match string_to_timestamp_nanos_with(starts, s) {
-        Read64::Value(z) => Read64::Value(z),
-        Read64::Refused(_) => string_to_timestamp_nanos_with(
-            starts,
-            trim_pre_and_post_whitespace(s),
-        ),
-    }
-}
-
-impl TimestampNanosecondType {
-    pub fn parse(s: &[u8]) -> Read64
-        ensures { outcome64 result ≡ timestamp_column 1 s.now }
-    {
-        let starts = calendar::year_starts();
-        TimestampNanosecondType::parse_with(&starts, s)
-    }
-
-    pub fn parse_with(starts: &[u32; 401], s: &[u8]) -> Read64
-        requires { YearStarts starts.now }
-        ensures { outcome64 result ≡ timestamp_column 1 s.now }
-    {
-        nanos(starts, s)
-    }
-}
-
-impl TimestampMicrosecondType {
-    pub fn parse(s: &[u8]) -> Read64
-        ensures { outcome64 result ≡ timestamp_column 1000 s.now }
-    {
-        let starts = calendar::year_starts();
-        TimestampMicrosecondType::parse_with(&starts, s)
-    }
-
-    pub fn parse_with(starts: &[u32; 401], s: &[u8]) -> Read64
-        requires { YearStarts starts.now }
-        ensures { outcome64 result ≡ timestamp_column 1000 s.now }
-    {
-        units::micros(nanos(starts, s))
-    }
-}
-
-impl TimestampMillisecondType {
-    pub fn parse(s: &[u8]) -> Read64
-        ensures { outcome64 result ≡ timestamp_column 1000000 s.now }
-    {
-        let starts = calendar::year_starts();
-        TimestampMillisecondType::parse_with(&starts, s)
-    }
-
-    pub fn parse_with(starts: &[u32; 401], s: &[u8]) -> Read64
-        requires { YearStarts starts.now }
-        ensures { outcome64 result ≡ timestamp_column 1000000 s.now }
-    {
-        units::millis(nanos(starts, s))
-    }
-}
-
-impl TimestampSecondType {
-    pub fn parse(s: &[u8]) -> Read64
-        ensures { outcome64 result ≡ timestamp_column 1000000000 s.now }
-    {
-        let starts = calendar::year_starts();
-        TimestampSecondType::parse_with(&starts, s)
-    }
-
-    pub fn parse_with(starts: &[u32; 401], s: &[u8]) -> Read64
-        requires { YearStarts starts.now }
-        ensures { outcome64 result ≡ timestamp_column 1000000000 s.now }
-    {
-        units::seconds(nanos(starts, s))
-    }
+    string_to_timestamp_nanos_with(starts, s).or_else(|_| string_to_timestamp_nanos_with(
+        starts,
+        trim_pre_and_post_whitespace(s),
+    ))
 }

@@ -1,34 +1,55 @@
-// A reader's nanoseconds in a column's unit, toward zero.
-ghost use Rattle.std.specs.Prelude.{◌≡◌};
-ghost use Rattle.refusal.specs.Attempts.{divided};
-ghost use Rattle.refusal.specs.Outcome.{outcome64};
+// The units of the four timestamp columns: how many nanoseconds each has.
+ghost use Rattle.std.specs.Prelude.{◌≤◌, ℕ};
+ghost use lib.Dec.{lit≤};
 
-use number::quotient;
-use refusal::Read64;
+pub trait TimeUnit {
+    ghost NANOS: { ℕ };
 
-pub fn micros(nanos: Read64) -> Read64
-    ensures { outcome64 result ≡ divided 1000 (outcome64 nanos) }
-{
-    match nanos {
-        Read64::Value(z) => Read64::Value(quotient::to_micros(z)),
-        Read64::Refused(why) => Read64::Refused(why),
-    }
+    const NANOS: u32;
+
+    ghost some: { 1 ≤ NANOS };
 }
 
-pub fn millis(nanos: Read64) -> Read64
-    ensures { outcome64 result ≡ divided 1000000 (outcome64 nanos) }
-{
-    match nanos {
-        Read64::Value(z) => Read64::Value(quotient::to_millis(z)),
-        Read64::Refused(why) => Read64::Refused(why),
-    }
+#[derive(Clone, Copy)]
+pub struct Nanosecond {}
+
+impl TimeUnit for Nanosecond {
+    ghost NANOS = { 1 };
+
+    const NANOS: u32 = 1;
+
+    ghost some = { lit≤ tt };
 }
 
-pub fn seconds(nanos: Read64) -> Read64
-    ensures { outcome64 result ≡ divided 1000000000 (outcome64 nanos) }
-{
-    match nanos {
-        Read64::Value(z) => Read64::Value(quotient::to_seconds(z)),
-        Read64::Refused(why) => Read64::Refused(why),
-    }
+#[derive(Clone, Copy)]
+pub struct Microsecond {}
+
+impl TimeUnit for Microsecond {
+    ghost NANOS = { 1000 };
+
+    const NANOS: u32 = 1_000;
+
+    ghost some = { lit≤ tt };
+}
+
+#[derive(Clone, Copy)]
+pub struct Millisecond {}
+
+impl TimeUnit for Millisecond {
+    ghost NANOS = { 1000000 };
+
+    const NANOS: u32 = 1_000_000;
+
+    ghost some = { lit≤ tt };
+}
+
+#[derive(Clone, Copy)]
+pub struct Second {}
+
+impl TimeUnit for Second {
+    ghost NANOS = { 1000000000 };
+
+    const NANOS: u32 = 1_000_000_000;
+
+    ghost some = { lit≤ tt };
 }

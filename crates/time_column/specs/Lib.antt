@@ -1,4 +1,4 @@
 -- What a reviewer must believe: what a time column reads.
 pub mod Answer
--- What private functions find; no contract of a public one cites it.
-pub mod Found
+-- A law that the columns cite; it states nothing to be believed.
+pub mod Widths

@@ -2,30 +2,29 @@
 -- fraction's factor and divisor, and a count is exact or does not fit. Assumes nothing.
 use mathlib.Core.Path.{◌≡◌, refl, sym, ap, ◌∙◌}
 use mathlib.Core.Bool.{true, false}
-use Rattle.std.specs.Prelude.{Option, None, Some}
-use Rattle.std.proofs.lemmas.Option.{none-some}
+use Rattle.std.specs.Prelude.{None, Some}
+use Rattle.std.proofs.lemmas.Option.{none-some, cond_some}
 use Prim.Native.Nat.{ℕ, suc, ◌+◌, ◌*◌, ◌/◌, ◌^◌, ◌≤◌, ◌<◌}
-use native.Mathlib.Nat.{mul-le-mul, mul-le-mul_left, mul-le-mul_right, div-lt_iff_lt-mul, div-le_self}
+use native.Mathlib.Nat.{mul-le-mul_left, mul-le-mul_right, div-lt_iff_lt-mul, div-le_self}
 use native.Mathlib.Omega.{arith}
-use lib.IntN.{ℤ, pos, negsuc, neg_ℤ, nat_abs, ◌+ℤ◌, ◌-ℤ◌, ◌*ℤ◌}
-use lib.Signed.{lt_z, quot_z}
-use mir.Syntax.{w32, w64}
-use mir.Val.{SFits, to_z}
+use lib.IntN.{ℤ, pos, negsuc, nat_abs, ◌+ℤ◌, ◌*ℤ◌}
+use lib.Signed.{mag, quot_z}
+use borrow.Author.Tests.{ltb-true}
+use mir.Syntax.{Width, w64}
+use mir.Val.{SFits, hbits, to_z}
 use mir.Facts.{to_z-of_z, to_z_pos}
-use Rattle.text.proofs.Bools.{by_test}
+use Rattle.text.proofs.Bools.{by_test, and_false}
 use Rattle.number.specs.Widths.{in_signed, fit}
-use Rattle.number.proofs.Zed.{abs_neg, abs_zero, size_pn, P, N, P-neg, N-neg, add_pn, mul_p, mul_n, lt_yes, lt_no, eq_of, fits_of}
-use Rattle.number.proofs.Ranges.{rd, fit_yes, fit_above, fit_below}
-use Rattle.number.proofs.Sizes.{small_fits, too_large}
+use Rattle.number.proofs.Zed.{abs_neg, abs_zero, P, N, add_pn, mul_p, mul_n, eq_of}
+use Rattle.number.proofs.Ranges.{rd, fit_yes}
+use Rattle.number.proofs.Sizes.{small_fits}
 use Rattle.amount.specs.Grammar.{precision}
-use Rattle.amount.specs.declared.IntervalAmount.{IntervalAmount}
+use Rattle.amount.specs.declared.held.IntervalAmount.{IntervalAmount}
 use Rattle.text.proofs.Values.{ten_pos}
-use Rattle.amount.proofs.AmountLaws.{abs_signed}
-use Rattle.amount.proofs.Amounts.{size_flips, size_minus}
 use Rattle.amount.specs.Read.{value_of, SameSign}
 use Rattle.rule.specs.Contribution.{Counts, counts, times, whole_times, frac_times, fits, plus}
-use Rattle.total.specs.Helpers.{Most, together, fitting, added}
-use Rattle.rule.proofs.Cuts.{mul_signed, add_signed, part_signed, times_cut, frac_ratio}
+use Rattle.total.specs.Helpers.{Ratio, fitting, added}
+use Rattle.rule.proofs.Cuts.{part_signed, times_cut, frac_ratio}
 
 add_none : (z : ℤ) → z +ℤ pos 0 ≡ z
 add_none z = eq_of (z +ℤ pos 0) z (omega (arith, add_pn z (pos 0)))
@@ -82,15 +81,12 @@ module _ (f : ℤ) (b : nat_abs f < 10 ^ precision) (a c : ℕ) (h : a ≤ 6048)
     cut_is = rw (to_z-of_z f_fits, factor, divisor, to_z-of_z product_fits, to_z-of_z quot_fits)
 
   -- r is the part
-  module _ {r : ℤ} (R : r ≡ quot_z (rd w64 f *ℤ pos a) (pos c)) where
-    part_exact : r ≡ quot_z (f *ℤ pos a) (pos c)
-    part_exact = R ∙ rw (to_z-of_z f_fits)
-
+  module _ {r : ℤ} (R : r ≡ quot_z (f *ℤ pos a) (pos c)) where
     pub part_fits : SFits w64 r
-    part_fits = rw part_exact quot_fits
+    part_fits = rw R quot_fits
 
     pub part_reads : rd w64 r ≡ quot_z (f *ℤ pos a) (pos c)
-    part_reads = to_z-of_z part_fits ∙ part_exact
+    part_reads = to_z-of_z part_fits ∙ R
 
     -- where a over c is k over ten to the limit, it is below k
     pub part_most : {k : ℕ} → 0 < c → k * c ≡ a * 10 ^ precision → k ≤ 1200 → nat_abs (rd w64 r) ≤ 1200
@@ -103,13 +99,17 @@ module _ (f : ℤ) (b : nat_abs f < 10 ^ precision) (a c : ℕ) (h : a ≤ 6048)
 -- ---- an amount x as the machine has its parts; a over c is a unit's factor k over ten to the limit
 
 module _ (x : IntervalAmount) (F : SFits w64 x.integer) (b : nat_abs x.frac < 10 ^ precision) where
+  pub whole_once : rd w64 x.integer ≡ whole_times 1 (value_of x)
+  unfolding whole_times
+  whole_once = to_z-of_z F ∙ sym (times_one x.integer)
+
   pub cut_whole : (k : ℕ) → rd w64 x.integer *ℤ pos k +ℤ pos 0 ≡ whole_times k (value_of x)
   unfolding whole_times
   cut_whole k = rw (to_z-of_z F) (add_none (x.integer *ℤ pos k))
 
   -- r is its part
-  module _ (k a c : ℕ) (h : a ≤ 6048) (p : 0 < c) (q : k * c ≡ a * 10 ^ precision) {r : ℤ} (R : r ≡ quot_z (rd w64 x.frac *ℤ pos a) (pos c)) where
-    part_times : rd w64 r ≡ frac_times precision k (value_of x)
+  module _ (k a c : ℕ) (h : a ≤ 6048) (p : 0 < c) (q : k * c ≡ a * 10 ^ precision) {r : ℤ} (R : r ≡ quot_z (x.frac *ℤ pos a) (pos c)) where
+    pub part_times : rd w64 r ≡ frac_times precision k (value_of x)
     unfolding frac_times
     part_times = part_reads x.frac b a c h R ∙ sym (frac_ratio x.frac k (10 ^ precision) a c (ten_pos precision) p q)
 
@@ -151,18 +151,39 @@ module _ (x : IntervalAmount) (F : SFits w64 x.integer) (b : nat_abs x.frac < 10
 
 -- ---- three counts
 
-module _ (x y z : ℤ) where
-  all_three : together (fit 31 x) (fit 31 y) (fit 63 z) ≡ fitting (counts x y z)
-  unfolding together fitting fits
-  all_three =
-      by_test (in_signed 31 x)
-      (λ p. by_test (in_signed 31 y)
-      (λ q. by_test (in_signed 63 z) (λ r. rw (p, q, r)) (λ r. rw (p, q, r)))
-      (λ q. rw (p, q)))
-      (λ p. rw p)
+some_fit : (k : ℕ) (m z : ℤ) → Some m ≡ fit k z → (in_signed k z ≡ true) × (z ≡ m)
+some_fit k m z e = cond_some (in_signed k z) z m (sym e)
 
-  pub three : {o p q : Option ℤ} → o ≡ fit 31 x → p ≡ fit 31 y → q ≡ fit 63 z → together o p q ≡ fitting (counts x y z)
-  three e f g = rw (e, f, g) all_three
+none_fit : (k : ℕ) (z : ℤ) → None ≡ fit k z → in_signed k z ≡ false
+none_fit k z e = by_test (in_signed k z) (λ t. absurd (none-some z (e ∙ rw t))) (λ t. t)
+
+-- a number that fits is read back
+pub fit_read : (w : Width) (m z : ℤ) → Some m ≡ fit (hbits w) z → rd w m ≡ m
+fit_read w m z e =
+    let p = some_fit (hbits w) m z e in
+    let f : SFits w z = record { sfits = ltb-true (mag z) (2 ^ hbits w) p.0 } in
+    rw p.1 at (to_z-of_z f)
+
+module _ (x y z : ℤ) where
+  pub three : {m d n : ℤ} → Some m ≡ fit 31 x → Some d ≡ fit 31 y → Some n ≡ fit 63 z → Some (counts m d n) ≡ fitting (counts x y z)
+  unfolding fitting fits
+  three {m} {d} {n} e f g =
+      let p = some_fit 31 m x e in
+      let q = some_fit 31 d y f in
+      let r = some_fit 63 n z g in
+      rw (p.0, q.0, r.0, p.1, q.1, r.1)
+
+  pub no_months : None ≡ fit 31 x → None ≡ fitting (counts x y z)
+  unfolding fitting fits
+  no_months e = rw (none_fit 31 x e)
+
+  pub no_days : None ≡ fit 31 y → None ≡ fitting (counts x y z)
+  unfolding fitting fits
+  no_days e = rw (none_fit 31 y e, and_false (in_signed 31 x))
+
+  pub no_nanos : None ≡ fit 63 z → None ≡ fitting (counts x y z)
+  unfolding fitting fits
+  no_nanos e = rw (none_fit 63 z e, and_false (in_signed 31 y), and_false (in_signed 31 x))
 
 -- ---- totals with a contribution
 
@@ -185,85 +206,17 @@ module _ (c k : Counts) where
 
 -- ---- a count of 32 bits: x times k, and p
 
-module _ {x p : ℤ} {k : ℕ} (fx : SFits w64 x) (fp : SFits w64 p) (K : 1 ≤ k) (M : k ≤ 1200) (b : nat_abs p ≤ 1200) where
-  pub count_below : lt_z (rd w64 x) (negsuc 4294967295) ≡ true → None ≡ fit 31 (x *ℤ pos k +ℤ p)
-  count_below =
-      rw (to_z-of_z fx) (λ t.
-      let l = lt_yes x (negsuc 4294967295) t in
-      let m : (P x + 4294967297) * k ≤ N x * k = mul-le-mul_right k (omega arith) in
-      fit_below w32 (x *ℤ pos k +ℤ p) (omega (arith, add_pn (x *ℤ pos k) p, mul_p x k, mul_n x k, size_pn p)))
+pub count_is : {x p : ℤ} {k : ℕ} → SFits w64 x → SFits w64 p → k < 2 ^ 63 → {m s : ℤ} → SFits w64 (rd w64 x *ℤ to_z w64 k) × (m ≡ rd w64 x *ℤ to_z w64 k) → SFits w64 (rd w64 m +ℤ rd w64 p) × (s ≡ rd w64 m +ℤ rd w64 p) → rd w64 s ≡ x *ℤ pos k +ℤ p
+count_is {x} {p} {k} fx fp K {m} {s} a b =
+    let i : to_z w64 k ≡ pos k = to_z_pos w64 {n = k} (omega arith) in
+    let e : m ≡ x *ℤ pos k = a.1 ∙ rw (to_z-of_z fx, i) in
+    let fm : SFits w64 m = rw a.1 a.0 in
+    let fs : SFits w64 s = rw b.1 b.0 in
+    to_z-of_z fs ∙ b.1 ∙ rw (to_z-of_z fm, to_z-of_z fp, e)
 
-  pub count_above : lt_z (pos 4294967296) (rd w64 x) ≡ true → None ≡ fit 31 (x *ℤ pos k +ℤ p)
-  count_above =
-      rw (to_z-of_z fx) (λ t.
-      let l = lt_yes (pos 4294967296) x t in
-      let m : (N x + 4294967297) * k ≤ P x * k = mul-le-mul_right k (omega arith) in
-      fit_above w32 (x *ℤ pos k +ℤ p) (omega (arith, add_pn (x *ℤ pos k) p, mul_p x k, mul_n x k, size_pn p)))
+-- ---- the factor of a fraction fits
 
-  module _ (l : lt_z (rd w64 x) (negsuc 4294967295) ≡ false) (r : lt_z (pos 4294967296) (rd w64 x) ≡ false) where
-    x_most : nat_abs x ≤ 4294967296
-    x_most =
-        let u : lt_z x (negsuc 4294967295) ≡ false = rw (to_z-of_z fx) at l in
-        let v : lt_z (pos 4294967296) x ≡ false = rw (to_z-of_z fx) at r in
-        size_of x (omega (arith, lt_no (pos 4294967296) x v)) (omega (arith, lt_no x (negsuc 4294967295) u))
-
-    x_fits : SFits w64 (x *ℤ pos k)
-    x_fits = small_fits w64 (x *ℤ pos k) (omega (arith, abs_mul x k, mul-le-mul x_most M))
-
-    sum_fits : SFits w64 (x *ℤ pos k +ℤ p)
-    sum_fits = fits_of w64 (x *ℤ pos k +ℤ p) (omega (arith, add_pn (x *ℤ pos k) p, size_pn (x *ℤ pos k), size_pn p, abs_mul x k, mul-le-mul x_most M))
-
-    k_is : to_z w64 k ≡ pos k
-    k_is = to_z_pos w64 {n = k} (omega arith)
-
-    pub count_product : SFits w64 (rd w64 x *ℤ to_z w64 k)
-    count_product = rw (to_z-of_z fx, k_is) x_fits
-
-    pub count_sum : SFits w64 (rd w64 (rd w64 x *ℤ to_z w64 k) +ℤ rd w64 p)
-    count_sum = rw (to_z-of_z fx, k_is, to_z-of_z x_fits, to_z-of_z fp) sum_fits
-
-    pub count_is : rd w64 (rd w64 (rd w64 x *ℤ to_z w64 k) +ℤ rd w64 p) ≡ x *ℤ pos k +ℤ p
-    count_is = rw (to_z-of_z fx, k_is, to_z-of_z x_fits, to_z-of_z fp, to_z-of_z sum_fits)
-
--- ---- a count of 64 bits: x times k, and p, of one sign
-
-module _ {x p : ℤ} {k most : ℕ} (fx : SFits w64 x) (fp : SFits w64 p) (M : Most k most) (S : SameSign x p) where
-  limit : to_z w64 most ≡ pos most
-  limit = to_z_pos w64 {n = most} (omega (arith, M.most_fits))
-
-  -- x is beyond the largest
-  far : most < nat_abs x → None ≡ fit 63 (x *ℤ pos k +ℤ p)
-  far h =
-      let m = S.whole in
-      let g : (most + 1) * k ≤ m * k = mul-le-mul_right k (omega (arith, ap nat_abs S.whole_is, abs_signed S.neg m)) in
-      rw (S.whole_is, S.part_is, mul_signed S.neg m k, add_signed S.neg (m * k) S.part) (too_large w64 (m * k + S.part) S.neg (omega (arith, M.largest)))
-
-  pub far_above : lt_z (to_z w64 most) (rd w64 x) ≡ true → None ≡ fit 63 (x *ℤ pos k +ℤ p)
-  far_above t =
-      let u : lt_z (pos most) x ≡ true = rw (limit, to_z-of_z fx) at t in
-      far (omega (arith, lt_yes (pos most) x u, size_pn x))
-
-  pub limit_flips : SFits w64 (pos 0 -ℤ to_z w64 most)
-  limit_flips = size_flips most M.most_fits
-
-  pub far_below : lt_z (rd w64 x) (rd w64 (pos 0 -ℤ to_z w64 most)) ≡ true → None ≡ fit 63 (x *ℤ pos k +ℤ p)
-  far_below t =
-      let u : lt_z x (neg_ℤ (pos most)) ≡ true = rw (to_z-of_z fx, size_minus most M.most_fits) at t in
-      far (omega (arith, lt_yes x (neg_ℤ (pos most)) u, P-neg (pos most), N-neg (pos most), size_pn x))
-
-  module _ (r : lt_z (to_z w64 most) (rd w64 x) ≡ false) (l : lt_z (rd w64 x) (rd w64 (pos 0 -ℤ to_z w64 most)) ≡ false) where
-    near : SFits w64 (x *ℤ pos k)
-    near =
-        let u : lt_z (pos most) x ≡ false = rw (limit, to_z-of_z fx) at r in
-        let v : lt_z x (neg_ℤ (pos most)) ≡ false = rw (to_z-of_z fx, size_minus most M.most_fits) at l in
-        let s : nat_abs x ≤ most = size_of x (omega (arith, lt_no (pos most) x u)) (omega (arith, lt_no x (neg_ℤ (pos most)) v, P-neg (pos most), N-neg (pos most))) in
-        small_fits w64 (x *ℤ pos k) (omega (arith, abs_mul x k, mul-le-mul_right k s, M.fits))
-
-    times_factor : to_z w64 k ≡ pos k
-    times_factor = to_z_pos w64 {n = k} (omega (arith, M.factor_fits))
-
-    pub near_product : SFits w64 (rd w64 x *ℤ to_z w64 k)
-    near_product = rw (to_z-of_z fx, times_factor) near
-
-    pub near_is : rd w64 (rd w64 x *ℤ to_z w64 k) +ℤ rd w64 p ≡ x *ℤ pos k +ℤ p
-    near_is = rw (to_z-of_z fx, times_factor, to_z-of_z near, to_z-of_z fp)
+pub ratio_small : {k a c : ℕ} → Ratio k a c → k < 2 ^ 63
+ratio_small {k} {a} {c} R =
+    let m : k * 1 ≤ k * c = mul-le-mul_left k (omega (arith, R.divides)) in
+    omega (arith, R.same, R.factor_fits)

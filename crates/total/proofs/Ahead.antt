@@ -3,7 +3,8 @@
 use mathlib.Core.Path.{◌≡◌, refl, sym, ◌∙◌}
 use mathlib.Core.Bool.{Bool, cond, ◌&&◌}
 use mathlib.Core.List.{List, [], ◌∷◌}
-use Rattle.std.specs.Prelude.{Option, None, Some}
+use Rattle.std.specs.Prelude.{Option, None, Some, Result, Ok}
+use Rattle.std.specs.Option.{ok_or}
 use Rattle.std.proofs.lemmas.Option.{none-some}
 use Prim.Native.Nat.{ℕ}
 use Rattle.text.proofs.Bools.{by_test}
@@ -16,7 +17,9 @@ use Rattle.rule.proofs.Turns.{add_to}
 use Rattle.place.specs.Pieces.{Pair, component_of}
 use Rattle.place.specs.Where.{or_later, first_bad, seen_with, none_seen, first_repeat, first_unfit, first_of}
 use Rattle.place.proofs.Turning.{Good}
-use Rattle.total.specs.Helpers.{added, unfit_with}
+use Rattle.total.specs.Helpers.{sum_of, totals_of, unfit_of, added, on_added, unfit_with}
+use Rattle.total.specs.Read.{counts_of}
+use Rattle.total.specs.declared.Interval.{Interval}
 
 -- ---- the first of several places
 
@@ -102,3 +105,13 @@ module _ (c k : Counts) (at : ℕ) where
   pub over_with : None ≡ added c k → Some at ≡ unfit_with (Some c) k at
   unfolding added unfit_with
   over_with h = by_test (fits k && fits (plus c k)) (λ f. absurd (none-some (plus c k) (h ∙ rw f))) (λ f. rw f)
+
+  -- the totals that come of it, or none, and the place where they first did not fit
+  added_at : (o : Option Interval) → sum_of o ≡ added c k → (totals_of (ok_or o at) ≡ added c k) × (unfit_of (ok_or o at) ≡ unfit_with (Some c) k at)
+  added_at None e = (e, over_with e)
+  added_at (Some i) e = (e, fits_with e)
+
+-- the same from totals o that fit so far
+pub added_to : {t : Result Interval ℕ} {i : Interval} → t ≡ Ok i → (k : Counts) (at : ℕ) (o : Option Interval) → sum_of o ≡ added (counts_of i) k → (totals_of (ok_or o at) ≡ on_added (totals_of t) k) × (unfit_of (ok_or o at) ≡ or_later (unfit_of t) (unfit_with (totals_of t) k at))
+unfolding on_added or_later
+added_to {t} {i} e k at o h = rw e (added_at (counts_of i) k at o h)

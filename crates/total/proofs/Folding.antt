@@ -4,36 +4,33 @@ use mathlib.Core.Path.{◌≡◌, refl, sym, ◌∙◌}
 use mathlib.Core.Bool.{Bool, true, false, cond, ◌||◌}
 use mathlib.Core.List.{List}
 use Rattle.std.specs.Prelude.{Option, None, Some}
-use Prim.Native.Nat.{ℕ, ◌+◌, ◌-◌, ◌^◌, ◌<◌}
+use Rattle.std.specs.Option.{option_or}
+use Rattle.std.specs.Bool.{then_some}
+use Prim.Native.Nat.{ℕ, ◌+◌, ◌-◌, ◌<◌}
 use native.Mathlib.Omega.{arith}
 use lib.Dec.{eqb}
-use lib.IntN.{nat_abs}
 use lib.ListN.{length, get_or, set, drop, replicate, get_or-replicate}
 use lib.Seq.{drop-drop, get_or-set_same, get_or-set_other}
-use mir.Syntax.{w64}
-use mir.Val.{SFits}
-use mir.Facts.{to_z-of_z}
 use borrow.Author.Tests.{eqb-true, eqb-false}
 use Rattle.utf8.specs.Utf8.{utf8}
 use Rattle.text.proofs.Bools.{by_test}
-use Rattle.number.proofs.Ranges.{rd}
 use Rattle.refusal.specs.Outcome.{Outcome, refused, number_in}
 use Rattle.unit.specs.Units.{rank, or_else}
-use Rattle.amount.specs.Grammar.{precision, valued}
+use Rattle.amount.specs.Grammar.{precision}
+use Rattle.amount.specs.Read.{value_of}
 use Rattle.component.specs.Grammar.{Component}
 use Rattle.component.specs.Division.{step, bad, before, divide}
 use Rattle.component.specs.Spelled.{unit_for}
 use Rattle.component.specs.Fault.{fault}
 use Rattle.component.specs.Read.{Holds, LastIs, MoreIs}
-use Rattle.amount.specs.declared.IntervalAmount.{IntervalAmount}
+use Rattle.amount.specs.declared.held.IntervalAmount.{IntervalAmount}
 use Rattle.unit.specs.declared.IntervalUnit.{IntervalUnit}
 use Rattle.unit.specs.declared.IntervalUnit.TheVariants.{Century, Decade, Year, Month, Week, Day, Hour, Minute, Second, Millisecond, Microsecond, Nanosecond}
 use Rattle.amount.proofs.AmountLaws.{amount_value}
 use Rattle.component.proofs.Steps.{at_bad, at_last, at_more}
 use Rattle.rule.specs.Contribution.{Counts, contribution, zeros}
 use Rattle.rule.specs.Answer.{gives, on_totals, on_division, month_day_nano}
-use Rattle.total.specs.Helpers.{Proper, added, on_added, came, unfit_with}
-use Rattle.number.proofs.Sizes.{small_fits}
+use Rattle.total.specs.Helpers.{added, on_added, came, unfit_with}
 use Rattle.rule.proofs.Turns.{mark, unseen, add_to, settle, settle_start, settle_bad, settle_last, settle_more, settle_same}
 use Rattle.rule.proofs.Demand3.{but_eight, eight}
 use Rattle.place.specs.Pieces.{Pair}
@@ -92,20 +89,10 @@ came_or None true at = refl
 came_or None false at = refl
 came_or (Some p) again at = refl
 
--- a fraction is read back
-reads_frac : (a : IntervalAmount) → nat_abs a.frac < 10 ^ precision → rd w64 a.frac ≡ a.frac
-reads_frac a h = to_z-of_z (small_fits w64 a.frac (omega arith))
-
--- what the code requires of an amount
-pub proper : (a : IntervalAmount) → SFits w64 a.integer → {c : Component} {w : Option IntervalUnit} → Holds precision c a w → Proper (rd w64 a.integer) (rd w64 a.frac)
-proper a F H = rw (to_z-of_z F, reads_frac a H.small) (record { one_sign = H.same_sign; small = H.small })
-
 -- what the code counts of an amount is what its component gives
-counted : (u : IntervalUnit) (a : IntervalAmount) (v : IntervalUnit) → SFits w64 a.integer → (c : Component) (w : Option IntervalUnit) → Holds precision c a w → unit_for u c ≡ v → contribution precision v (valued (rd w64 a.integer) (rd w64 a.frac)) ≡ gives precision u c
+counted : (u : IntervalUnit) (a : IntervalAmount) (v : IntervalUnit) (c : Component) (w : Option IntervalUnit) → Holds precision c a w → unit_for u c ≡ v → contribution precision v (value_of a) ≡ gives precision u c
 unfolding gives
-counted u a v F c w H e =
-    let f : rd w64 a.frac ≡ a.frac = reads_frac a H.small in
-    rw (to_z-of_z F, f, ← amount_value H.amount_is, ← e)
+counted u a v c w H e = rw (← amount_value H.amount_is, ← e)
 
 -- what the code adds is what the definition adds
 added_is : (u : IntervalUnit) (o : Option Counts) (c : Component) → on_added o (gives precision u c) ≡ add_to precision u o c
@@ -119,6 +106,13 @@ unfolding on_totals
 from_nine {k} true o h e = let z : ◌≡◌ {A = ℕ} 9 k = cc in omega arith
 from_nine {k} false None h e = let z : ◌≡◌ {A = ℕ} 10 k = cc in omega arith
 from_nine false (Some c) h e = let z : ◌≡◌ {A = ℕ} 0 1 = cc in omega arith
+
+-- a unit that came again is told as the definition tells it
+pub or_is : (r : Option ℕ) (again : Bool) (at : ℕ) → option_or r (then_some again at) ≡ or_later r (cond again (Some at) None)
+unfolding or_later
+or_is (Some p) again at = refl
+or_is None true at = refl
+or_is None false at = refl
 
 module _ (s : List ℕ) (u : IntervalUnit) where
   pub starts : Goes s u 0 (replicate 12 false) false (Some zeros)
@@ -150,10 +144,10 @@ module _ (s : List ℕ) (u : IntervalUnit) where
         sym (eight precision u s n ∙ by_test (utf8 s) (λ p. rw (h, p)) (λ p. rw (h, p)))
 
     -- the amount a of unit v, whose mark is at k, makes the totals t
-    module _ (a : IntervalAmount) (v : IntervalUnit) {k : ℕ} (K : k ≡ rank v) {t : Option Counts} (F : SFits w64 a.integer) (T : t ≡ on_added total (contribution precision v (valued (rd w64 a.integer) (rd w64 a.frac)))) where
+    module _ (a : IntervalAmount) (v : IntervalUnit) {k : ℕ} (K : k ≡ rank v) {t : Option Counts} (T : t ≡ on_added total (contribution precision v (value_of a))) where
       -- of a component c
       totals_are : (c : Component) (w : Option IntervalUnit) → Holds precision c a w → unit_for u c ≡ v → t ≡ add_to precision u total c
-      totals_are c w H e = T ∙ rw (counted u a v F c w H e) (added_is u total c)
+      totals_are c w H e = T ∙ rw (counted u a v c w H e) (added_is u total c)
 
       pub last_answer : {w : Option IntervalUnit} → LastIs precision s at a w → v ≡ or_else u w → {r : Outcome Counts} → r ≡ cond (repeated || get_or seen k false) (refused 9) (on_totals t) → r ≡ month_day_nano precision u s
       last_answer {w} L o {r} R =
@@ -186,17 +180,17 @@ module _ (s : List ℕ) (u : IntervalUnit) where
         let f : first_of precision u (pairs_from 0 s) ≡ Some p = P ∙ ahead_bad precision u (seen_in seen) repeated total unfit (pairs_from at (drop at s)) (rw h (on_bad precision at (drop at s) e)) in
         o ∙ rw f
 
-    module _ (a : IntervalAmount) (v : IntervalUnit) {k : ℕ} (K : k ≡ rank v) (F : SFits w64 a.integer) where
+    module _ (a : IntervalAmount) (v : IntervalUnit) {k : ℕ} (K : k ≡ rank v) where
       -- what the component adds
       abbrev more : Counts
-      more = contribution precision v (valued (rd w64 a.integer) (rd w64 a.frac))
+      more = contribution precision v (value_of a)
 
       -- the pairs behind a component c, which are d
       next_place : (c : Component) (w : Option IntervalUnit) → Holds precision c a w → unit_for u c ≡ v → {d : List Pair} → Next precision at (drop at s) c d
           → first_of precision u (pairs_from 0 s) ≡ ahead precision u (seen_with (seen_in seen) v) (or_later repeated (cond (get_or seen k false) (Some at) None)) (on_added total more) (or_later unfit (unfit_with total more at)) d
       next_place c w H e {d} N =
           P ∙
-          rw (N.are, ahead_next precision u N.both N.component_is (seen_in seen) repeated total unfit d, counted u a v F c w H e, added_is u total c, e, K)
+          rw (N.are, ahead_next precision u N.both N.component_is (seen_in seen) repeated total unfit d, counted u a v c w H e, added_is u total c, e, K)
 
       pub last_place : {w : Option IntervalUnit} → LastIs precision s at a w → v ≡ or_else u w → utf8 s ≡ true → {o r x : Option ℕ} → r ≡ or_later repeated (cond (get_or seen k false) (Some at) None) → x ≡ or_later unfit (unfit_with total more at) → o ≡ or_later r x → o ≡ place precision u s
       last_place {w} L i U R X O =

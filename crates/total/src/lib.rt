@@ -4,36 +4,21 @@
 ghost use Rattle.std.specs.Prelude.{◌≡◌};
 
 use count::{Days, Months, Nanos};
-use place::IntervalRefusal;
 use unit::IntervalUnit;
 
 mod components;
 mod contributions;
 
 // The three counts of an interval, which never pass for one another.
-#[derive(Clone, Copy)]
+#[derive(Clone, Copy, Debug, PartialEq, Eq)]
 pub struct Interval {
     pub months: Months,
     pub days: Days,
     pub nanos: Nanos,
 }
 
-// Counts, where they fit.
-#[derive(Clone, Copy)]
-pub enum Sum {
-    Fits(Interval),
-    Over,
-}
-
-// A reader's answer of months, days and nanoseconds.
-#[derive(Clone, Copy)]
-pub enum IntervalRead {
-    Value(Interval),
-    Refused(IntervalRefusal),
-}
-
 // The unit of a last component that has none.
-#[derive(Clone, Copy)]
+#[derive(Clone, Copy, Debug, PartialEq, Eq)]
 pub struct IntervalParseConfig {
     pub default_unit: IntervalUnit,
 }

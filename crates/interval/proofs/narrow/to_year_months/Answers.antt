@@ -1,4 +1,5 @@
 -- `interval::narrow::to_year_months` meets its contract. Assumes nothing.
+use borrow.Author.Rules.{rules}
 use mir.Syntax.{w32, w64}
 use mir.Val.{SFits}
 use Rattle.interval.proofs.Narrower.{some_days, some_nanos, months_alone}
@@ -14,6 +15,6 @@ returns-then-nanos-ne0 c = let x = c.args.interval in
 
 pub returns : goal.returns
 returns c = let x = c.args.interval in
-    let fd : SFits w32 x.days.0 = record { sfits = c.struct_told-1.given.0.1 } in
-    let fn : SFits w64 x.nanos.0 = record { sfits = c.struct_told-2-1.given.0.1 } in
+    let fd : SFits w32 x.days.0 = search rules in
+    let fn : SFits w64 x.nanos.0 = search rules in
     months_alone x.months.0 x.days.0 x.nanos.0 fd fn c.if-days-ne0.false c.if-nanos-ne0.false

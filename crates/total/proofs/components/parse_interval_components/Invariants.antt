@@ -4,15 +4,15 @@
 use mathlib.Core.Path.{◌≡◌}
 use Prim.Native.Nat.{◌-◌, ◌≤◌}
 use lib.ListN.{length}
-use Rattle.total.specs.Helpers.{totals_of, unfit_of, repeat_of, came}
+use Rattle.total.specs.Helpers.{totals_of, unfit_of, came}
 use Rattle.total.proofs.Folding.{Goes, Places}
 use Rattle.total.proofs.components.parse_interval_components.Given as goal
 
-abbrev pub invariant-loop-place : goal.invariant-loop-place
-invariant-loop-place l = (l.at ≤ length l.value) ×
+abbrev pub invariant-loop-piece : goal.invariant-loop-piece
+invariant-loop-piece l = (l.at ≤ length l.value) ×
     (length l.seen ≡ 12) ×
-    Goes l.value l.default_unit l.at l.seen (came (repeat_of l.repeated)) (totals_of l.total) ×
-    Places l.value l.default_unit l.at l.seen (repeat_of l.repeated) (totals_of l.total) (unfit_of l.total)
+    Goes l.value l.default_unit l.at l.seen (came l.repeated) (totals_of l.total) ×
+    Places l.value l.default_unit l.at l.seen l.repeated (totals_of l.total) (unfit_of l.total)
 
-abbrev pub decreases-loop-place : goal.decreases-loop-place
-decreases-loop-place l = length l.value - l.at
+abbrev pub decreases-loop-piece : goal.decreases-loop-piece
+decreases-loop-piece l = length l.value - l.at

@@ -1,7 +1,0 @@
--- `stamp_column::TimestampMillisecondType::parse_with` meets its contract: the nanoseconds, divided. Assumes nothing.
-use mathlib.Core.Path.{ap, ◌∙◌}
-use Rattle.refusal.specs.Attempts.{divided}
-use Rattle.stamp_column.proofs.TimestampMillisecondType.parse_with.Goals as goal
-
-pub returns : goal.returns
-returns c = c.millis.ensures ∙ ap (divided 1000000) c.nanos.ensures
