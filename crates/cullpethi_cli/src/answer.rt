@@ -19,8 +19,11 @@ use timestamp::stamp::string_to_timestamp_nanos;
 use total::IntervalParseConfig;
 
 const NANOS: &[u8] = b" nanoseconds";
+
 const MICROS: &[u8] = b" microseconds";
+
 const MILLIS: &[u8] = b" milliseconds";
+
 const SECONDS: &[u8] = b" seconds";
 
 pub fn of(reader: Reader, text: &[u8], out: &mut Out) -> Outcome {

@@ -12,7 +12,8 @@ pub fn version(to: Streams) -> Result<Status, Failure> {
 
 // The readers' names, where a word names none.
 pub fn names(to: Streams) {
-    let names = b"the readers are string_to_timestamp_nanos, site_stamp, timestamp_nanosecond, timestamp_microsecond, \
+    let names =
+        b"the readers are string_to_timestamp_nanos, site_stamp, timestamp_nanosecond, timestamp_microsecond, \
         timestamp_millisecond, timestamp_second, string_to_time_nanoseconds, time64_nanosecond, time64_microsecond, \
         time32_millisecond, time32_second, date32, date64, interval, interval_year_month, interval_day_time";
     output::said(to, &[names]);
@@ -26,7 +27,9 @@ pub fn all(to: Streams) -> Result<Status, Failure> {
     dates(&mut out);
     intervals(&mut out);
     refusals(&mut out);
-    out.put(b"\nExit status: 0 each text was read, 1 a text was refused or too long, 2 bad usage or no input or output.\n");
+    out.put(
+        b"\nExit status: 0 each text was read, 1 a text was refused or too long, 2 bad usage or no input or output.\n",
+    );
     told(to, out.as_bytes())
 }
 
