@@ -1,10 +1,9 @@
 -- What stands in front of a text that a line writes, and the text that is left to write behind it. Assumes nothing.
 use mathlib.Core.Path.{◌≡◌, refl, ◌∙◌, ap}
-use mathlib.Core.Bool.{Bool, true, false, cond, ◌&&◌}
+use mathlib.Core.Bool.{Bool, true, false, cond}
 use mathlib.Core.List.{List, [], ◌∷◌, ◌++◌, append-nil}
 use Prim.Native.Nat.{ℕ, zero, suc, ◌-◌, ◌≤◌, ◌<◌}
 use native.Mathlib.Omega.{arith}
-use lib.Dec.{eqb}
 use lib.ListN.{length, take, drop, get_or, get_or-eq_default}
 use lib.Seq.{take_all, take-length}
 use Rattle.std.specs.Prelude.{Option, None, Some, slice_index_or}
@@ -32,20 +31,17 @@ as_it_stands (b ∷ t) e h =
     let m : length (b ∷ t) - 1 ≡ length t = omega arith in
     step b t ∙ rw (e, m, r)
 
-if_same : {A : Type 0} {y : A} (b : Bool) → cond b y y ≡ y
-if_same true = refl
-if_same false = refl
-
-no_pair : (x : Option ℕ) → pair_worth x None ≡ None
-no_pair None = refl
-no_pair (Some x) = refl
+no_pair : (test : Bool) (x : Option ℕ) → cond test (pair_worth x None) None ≡ None
+no_pair true None = refl
+no_pair true (Some x) = refl
+no_pair false x = refl
 
 -- fewer than four bytes are no escape
 pub too_short : (s : List ℕ) → length s < 4 → escaped s ≡ None
 unfolding escaped hex_worth
 too_short s h =
     let q : get_or s 3 0 ≡ 0 = get_or-eq_default s 0 (omega arith) in
-    rw (q, no_pair (hex_worth (get_or s 2 0)), if_same (eqb (get_or s 0 0) 0x5C && eqb (get_or s 1 0) 0x78))
+    rw q (no_pair _ (hex_worth (get_or s 2 0)))
 
 -- nothing is left to put
 pub all_put : (room : ℕ) (held rest : List ℕ) → rest ≡ [] → length held ≤ room → take room (held ++ unescaped rest) ≡ held
