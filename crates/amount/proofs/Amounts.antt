@@ -8,19 +8,18 @@ use native.Mathlib.Nat.{add-zero}
 use native.Mathlib.Numerals.{add-one}
 use native.Mathlib.Omega.{arith}
 use lib.Dec.{eqb, ltb}
-use lib.IntN.{ℤ, pos, neg_ℤ, ◌-ℤ◌}
+use lib.IntN.{ℤ, pos}
 use lib.ListN.{length, get_or, take, drop, length-drop, get_or-eq_default}
 use lib.Seq.{take_all, get_or-drop, drop-drop, drop-cons}
 use lib.Signed.{mag}
 use mir.Syntax.{w64}
-use mir.Val.{SFits, to_z}
-use mir.Facts.{to_z-of_z, to_z_pos}
-use borrow.Author.Tests.{eqb-true, eq-eqb, ne_eqb, lt-ltb, le-ltb, ltb-true, ltb-false}
+use mir.Val.{SFits}
+use mir.Facts.{to_z-of_z}
+use borrow.Author.Tests.{eqb-true, eq-eqb, ne_eqb, lt-ltb, ltb-true, ltb-false}
 use Rattle.text.specs.Digits.{worth, digit_of, value, run, within}
 use Rattle.text.proofs.Bools.{by_test, both_ways, within_yes, within_under, within_over}
 use Rattle.text.proofs.DigitLaws.{is_worth, run_on, run_off, run_end}
 use Rattle.number.specs.Widths.{in_signed, signed, fit}
-use Rattle.number.proofs.Zed.{P-neg, N-neg, sub-ℤ, eq_of, fits_of}
 use Rattle.number.proofs.Ranges.{rd}
 use Rattle.amount.specs.Grammar.{precision, whole_fits, Value, valued, Amount}
 use Rattle.amount.specs.Scan.{negative, sign_len, amount_len, amount_of}
@@ -78,11 +77,6 @@ fits_size : (neg : Bool) (m : ℕ) → in_signed 63 (signed neg m) ≡ true → 
 fits_size true zero e = omega arith
 fits_size true (suc m) e = omega (arith, ltb-true m 9_223_372_036_854_775_808 e)
 fits_size false m e = omega (arith, ltb-true m 9_223_372_036_854_775_808 e)
-
-size_over : (neg : Bool) (m : ℕ) → 9_223_372_036_854_775_808 < m → in_signed 63 (signed neg m) ≡ false
-size_over true zero h = absurd (omega arith)
-size_over true (suc m) h = le-ltb m 9_223_372_036_854_775_808 (omega arith)
-size_over false m h = le-ltb m 9_223_372_036_854_775_808 (omega arith)
 
 -- m is the number v, or the cap where it is more
 module _ (neg : Bool) (v : ℕ) {m : ℕ} (e : m ≡ min v cap) where
@@ -259,30 +253,6 @@ module _ {s : List ℕ} {at p : ℕ} {neg : Bool} {z : ℤ} (Q : PointAt s at p 
       let R = rw (rest_is s p) at P in
       let e : size_on precision s p ≡ r.value = sym R.value_is in
       pointed_behind s at (at + sign_len neg) neg Q.sign_is refl Q.fitting p place_is Q.point (omega (arith, R.len_is, h)) R.most (omega (arith, R.len_is)) (omega (arith, R.inside, length-drop p s, Q.inside)) Q.integer_is (rw e S)
-
--- ---- a size with its sign, as the machine has it
-
-module _ (m : ℕ) (h : m < 2 ^ 63) where
-  plain : to_z w64 m ≡ pos m
-  plain = to_z_pos w64 {n = m} (omega arith)
-
-  pub size_plus : to_z w64 m ≡ signed false m
-  size_plus = plain
-
-  negated : pos 0 -ℤ pos m ≡ neg_ℤ (pos m)
-  negated = eq_of (pos 0 -ℤ pos m) (neg_ℤ (pos m)) (omega (arith, sub-ℤ (pos 0) (pos m), P-neg (pos m), N-neg (pos m)))
-
-  minus_fits : SFits w64 (neg_ℤ (pos m))
-  minus_fits = fits_of w64 (neg_ℤ (pos m)) (omega (arith, P-neg (pos m), N-neg (pos m)))
-
-  pub size_cast : SFits w64 (pos m)
-  size_cast = record { sfits = omega arith }
-
-  pub size_flips : SFits w64 (pos 0 -ℤ to_z w64 m)
-  size_flips = rw (plain, negated) minus_fits
-
-  pub size_minus : rd w64 (pos 0 -ℤ to_z w64 m) ≡ signed true m
-  size_minus = rw (plain, negated, to_z-of_z minus_fits)
 
 -- ---- the contract of `amount_at` leaves nothing free: two programs that meet it give the same answer for every text and place
 

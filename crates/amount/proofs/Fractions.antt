@@ -50,16 +50,6 @@ pub record Reading (n : ℕ) (s : List ℕ) (v scale i : ℕ) : Type 0 where
   pub value_is : value_on s i v ≡ value_on s 0 0
   pub run_is : i + run (drop i s) ≡ run s
 
-pub reading_first : (n : ℕ) (s : List ℕ) → Reading n s 0 (10 ^ n) 0
-reading_first n s =
-    record {
-      most = omega arith;
-      scale_is = rw (sub-zero n);
-      small = rw (pow-zero 10) (omega arith);
-      value_is = refl;
-      run_is = omega arith;
-    }
-
 module _ {n : ℕ} {s : List ℕ} {v scale i : ℕ} (R : Reading n s v scale i) where
   -- the scale that the loop keeps is the running one
   pub running : scale ≡ scale_after n i

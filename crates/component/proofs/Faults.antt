@@ -1,6 +1,6 @@
 -- Amount pieces, and where a component cannot be read. An amount is measured to its piece's end, or the piece is none. Assumes nothing.
 use mathlib.Core.Path.{◌≡◌, refl, ◌∙◌}
-use mathlib.Core.Bool.{Bool, true, false, not, ◌||◌}
+use mathlib.Core.Bool.{Bool, true, false, ◌||◌}
 use mathlib.Core.Logic.{⊎_elim}
 use mathlib.Core.List.{List, [], ◌∷◌, ◌++◌}
 use Prim.Native.Nat.{ℕ, suc, ◌+◌, ◌≤◌, ◌<◌}
@@ -47,14 +47,6 @@ in_range_lem b e =
 past_out : in_amount 0 ≡ false
 unfolding in_amount
 past_out = refl
-
--- what `not_interval_amount` tells of a byte
-module _ {r : Bool} (b : ℕ) (R : r ≡ not (in_amount b)) where
-  pub told_out : r ≡ true → in_amount b ≡ false
-  told_out e = by_test (in_amount b) (λ h. both_ways r (R ∙ rw h) e) (λ h. h)
-
-  pub told_in : r ≡ false → in_amount b ≡ true
-  told_in e = by_test (in_amount b) (λ h. h) (λ h. both_ways r e (R ∙ rw h))
 
 -- ---- how long a piece is
 

@@ -14,7 +14,6 @@ use borrow.Author.Tests.{eqb-true, eqb-false, eq-eqb, ne_eqb, leb-true, leb-fals
 use Rattle.text.proofs.Bools.{by_test, both_ways, fails}
 use Rattle.white.specs.WhiteSpace.{white_len}
 use Rattle.white.proofs.Characters.{not_white}
-use Rattle.white.proofs.WhiteAgrees.{no_longer}
 use Rattle.unit.specs.Units.{is_unit, word_len}
 use Rattle.unit.proofs.Spelling.{unit_first, word_on, word_off, word_end_lem}
 use Rattle.unit.proofs.WordLaws.{word_is}
@@ -93,9 +92,6 @@ module _ (p : ℕ) (t : List ℕ) where
     -- the pairs behind it
     abbrev Rest : List Pair → Type 0
     Rest d = pairs_from p t ≡ This ∷ d
-
-    f_inside : f ≤ length t
-    f_inside = omega (arith, no_longer (drop k t), length-drop k t)
 
     -- apart
     module _ (apart : 0 < w) where

@@ -151,10 +151,6 @@ module _ (n : ℕ) (u : IntervalUnit) (t : List ℕ) where
   unfolding month_day_nano
   divided_answer {d} e = rw (divided_utf8 n t d e, e)
 
-  pub undivided_answer : divide n t ≡ None → month_day_nano n u t ≡ cond (utf8 t) (refused 8) (refused 1)
-  unfolding month_day_nano on_division
-  undivided_answer e = rw e
-
   -- so a reader that has the division's answer r tests UTF-8 only where r is 8
   pub but_eight : {r : Outcome Counts} → on_division n u (divide n t) ≡ r → (r ≡ refused 8 → ⊥) → month_day_nano n u t ≡ r
   unfolding on_division

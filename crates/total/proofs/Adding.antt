@@ -29,9 +29,6 @@ use Rattle.rule.proofs.Cuts.{part_signed, times_cut, frac_ratio}
 add_none : (z : ℤ) → z +ℤ pos 0 ≡ z
 add_none z = eq_of (z +ℤ pos 0) z (omega (arith, add_pn z (pos 0)))
 
-none_add : (z : ℤ) → pos 0 +ℤ z ≡ z
-none_add z = eq_of (pos 0 +ℤ z) z (omega (arith, add_pn (pos 0) z))
-
 times_one : (z : ℤ) → z *ℤ pos 1 ≡ z
 times_one z = eq_of (z *ℤ pos 1) z (omega (arith, mul_p z 1, mul_n z 1))
 
@@ -55,30 +52,8 @@ module _ (f : ℤ) (b : nat_abs f < 10 ^ precision) (a c : ℕ) (h : a ≤ 6048)
       let m : nat_abs f * a ≤ nat_abs f * 6048 = mul-le-mul_left (nat_abs f) h in
       omega (arith, abs_mul f a)
 
-  product_fits : SFits w64 (f *ℤ pos a)
-  product_fits = small_fits w64 (f *ℤ pos a) product_small
-
   quot_fits : SFits w64 (quot_z (f *ℤ pos a) (pos c))
   quot_fits = small_fits w64 (quot_z (f *ℤ pos a) (pos c)) (omega (arith, product_small, abs_quot (f *ℤ pos a) c, div-le_self (nat_abs (f *ℤ pos a)) c))
-
-  f_fits : SFits w64 f
-  f_fits = small_fits w64 f (omega arith)
-
-  factor : to_z w64 a ≡ pos a
-  factor = to_z_pos w64 {n = a} (omega arith)
-
-  pub cut_mul : SFits w64 (rd w64 f *ℤ to_z w64 a)
-  cut_mul = rw (to_z-of_z f_fits, factor) product_fits
-
-  module _ (l : c ≤ 10 ^ precision) where
-    divisor : to_z w64 c ≡ pos c
-    divisor = to_z_pos w64 {n = c} (omega arith)
-
-    pub cut_div : SFits w64 (quot_z (rd w64 (rd w64 f *ℤ to_z w64 a)) (to_z w64 c))
-    cut_div = rw (to_z-of_z f_fits, factor, divisor, to_z-of_z product_fits) quot_fits
-
-    pub cut_is : rd w64 (quot_z (rd w64 (rd w64 f *ℤ to_z w64 a)) (to_z w64 c)) ≡ quot_z (f *ℤ pos a) (pos c)
-    cut_is = rw (to_z-of_z f_fits, factor, divisor, to_z-of_z product_fits, to_z-of_z quot_fits)
 
   -- r is the part
   module _ {r : ℤ} (R : r ≡ quot_z (f *ℤ pos a) (pos c)) where
@@ -129,9 +104,6 @@ module _ (x : IntervalAmount) (F : SFits w64 x.integer) (b : nat_abs x.frac < 10
         }
 
     -- it is a count by itself
-    pub cut_days : pos 0 *ℤ pos 1 +ℤ rd w64 r ≡ frac_times precision k (value_of x)
-    cut_days = none_add (rd w64 r) ∙ part_times
-
     pub cut_fits : Some (rd w64 r) ≡ fit 63 (frac_times precision k (value_of x))
     cut_fits =
         let f = part_fits x.frac b a c h R in

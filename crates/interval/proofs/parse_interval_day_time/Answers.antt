@@ -1,6 +1,5 @@
 -- `interval::parse_interval_day_time` meets its contract: the interval of the text, narrowed. Assumes nothing.
 use Rattle.std.proofs.lemmas.Result.{err_from_is_err_and}
-use Rattle.count.specs.declared.Months.{Months}
 use Rattle.rule.specs.Answer.{to_day_time, day_time}
 use Rattle.rule.specs.Meaning.{day_time_of}
 use Rattle.interval.specs.declared.IntervalDayTime.{IntervalDayTime}

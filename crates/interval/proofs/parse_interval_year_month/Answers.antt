@@ -2,8 +2,6 @@
 use Rattle.std.proofs.lemmas.Result.{err_from_is_err_and}
 use Rattle.count.specs.declared.Months.{Months}
 use Rattle.rule.specs.Answer.{to_year_months, year_month}
-use Rattle.rule.specs.Meaning.{day_time_of}
-use Rattle.interval.specs.declared.IntervalDayTime.{IntervalDayTime}
 use Rattle.rule.proofs.Demand3.{year_month_meant}
 use Rattle.interval.proofs.Narrower.{with_place, narrows, narrows_refused, no_place, same_place}
 use Rattle.interval.proofs.parse_interval_year_month.Goals as goal
