@@ -26,5 +26,5 @@ abbrev pub ToldColumn : Whole → ℕ → ℕ → ℕ → List ℤ → List ℤ 
 ToldColumn w status i j before after = ToldAt w status i j × (after ≡ cells_after w before)
 
 -- what a column's answer makes of status and index, whatever the values
-abbrev pub Tells : Result Unit ColumnRefusal → ℕ → ℕ → ℕ → Type 0
+abbrev pub Tells : Result (Unit {0}) ColumnRefusal → ℕ → ℕ → ℕ → Type 0
 Tells r status before after = (zs : List ℤ) → ToldAt (whole_of r zs) status before after

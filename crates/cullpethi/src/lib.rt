@@ -190,6 +190,7 @@ pub fn cullpethi_parse_interval_month_day_nano_config(
 
 // A whole column by its number, 0 TimestampNanosecond to 9 Date64: each text by the column's reader, its value into its cell, or the first
 // refused one's number and index; 13 where ends fall or pass the bytes or cells are too few, 255 where there is no such column.
+#[tactic(auto, unfolding(whole_column::specs::Answer::cells_after))]
 pub fn cullpethi_parse_column(
     column: u8,
     texts: &[u8],
