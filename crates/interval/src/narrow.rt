@@ -25,7 +25,8 @@ pub fn all_millis(nanos: Nanos) -> Option<Millis>
     if n % 1_000_000 != 0 {
         return None;
     }
-    Some(Millis(checked::narrow(quotient::to_millis(n))?))
+    let millis = checked::narrow(quotient::to_millis(n))?;
+    Some(Millis(millis))
 }
 
 // The months, where there are no days and no nanoseconds.

@@ -1,5 +1,5 @@
 -- `interval::narrow::all_millis` meets its contract, by the laws of a quotient and its rest. Assumes nothing.
-use mathlib.Core.Path.{◌∙◌}
+use mathlib.Core.Path.{sym, ◌∙◌}
 use borrow.Author.Rules.{rules}
 use mir.Syntax.{w32, w64}
 use mir.Val.{SFits}
@@ -12,10 +12,11 @@ pub returns-then-n-ne0 : goal.returns-then-n-ne0
 returns-then-n-ne0 c = let f : SFits w64 c.args.nanos.0 = search rules in
     no_millis f c.if-n-ne0.true
 
-pub returns-in_err-narrow : goal.returns-in_err-narrow
-returns-in_err-narrow c = let f : SFits w64 c.args.nanos.0 = search rules in
-    rw c.from_residual.ensures (c.in_err-narrow.ensures ∙ millis f c.to_millis.ensures c.if-n-ne0.false)
+pub returns-in_err-millis : goal.returns-in_err-millis
+returns-in_err-millis c = let f : SFits w64 c.args.nanos.0 = search rules in
+    rw c.from_residual.ensures (sym c.in_err-millis.was ∙ c.narrow.ensures ∙ millis f c.to_millis.ensures c.if-n-ne0.false)
 
 pub returns : goal.returns
 returns c = let f : SFits w64 c.args.nanos.0 = search rules in
-    rw (fit_read w32 c.in_ok-narrow.field-0 (rd w64 c.to_millis.result) c.in_ok-narrow.ensures) (c.in_ok-narrow.ensures ∙ millis f c.to_millis.ensures c.if-n-ne0.false)
+    let e = sym c.in_ok-millis.was ∙ c.narrow.ensures in
+    rw (fit_read w32 c.in_ok-millis.millis (rd w64 c.to_millis.result) e) (e ∙ millis f c.to_millis.ensures c.if-n-ne0.false)
