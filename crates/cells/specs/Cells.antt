@@ -1,7 +1,7 @@
 -- What a C caller finds after a call: a status, and the cells that it lent. The refusals' numbers are document 01's. Assumes nothing.
-use Rattle.std.specs.Prelude.{◌≡◌, List, ℕ, ℤ, Option, None, Some}
+use Rattle.std.specs.Prelude.{◌≡◌, List, ℕ, ℤ, Option, None, Some, Result}
 use Rattle.parse_column.specs.Read.{whole_of}
-use Rattle.parse_column.specs.declared.ColumnRead.{ColumnRead}
+use Rattle.parse_column.specs.declared.ColumnRefusal.{ColumnRefusal}
 use Rattle.refusal.specs.Outcome.{Outcome, accepted, refused}
 use Rattle.whole_column.specs.Answer.{Whole, all_accepted, first_refused, not_read, cells_after}
 
@@ -26,5 +26,5 @@ abbrev pub ToldColumn : Whole → ℕ → ℕ → ℕ → List ℤ → List ℤ 
 ToldColumn w status i j before after = ToldAt w status i j × (after ≡ cells_after w before)
 
 -- what a column's answer makes of status and index, whatever the values
-abbrev pub Tells : ColumnRead → ℕ → ℕ → ℕ → Type 0
+abbrev pub Tells : Result (Unit {0}) ColumnRefusal → ℕ → ℕ → ℕ → Type 0
 Tells r status before after = (zs : List ℤ) → ToldAt (whole_of r zs) status before after

@@ -2,7 +2,7 @@
 #![tactic(auto)]
 
 ghost use Rattle.std.specs.Prelude.{◌≡◌};
-ghost use Rattle.refusal.specs.Outcome.{outcome32, outcome64, number_of};
+ghost use Rattle.refusal.specs.Outcome.{outcome, number_of};
 ghost use Rattle.rule.specs.Meaning.{day_time_of};
 ghost use Rattle.rule.specs.Contribution.{counts};
 ghost use Rattle.place.specs.Read.{refusal_of, place_in};
@@ -10,33 +10,23 @@ ghost use Rattle.interval.specs.Read.{year_month_outcome, year_month_place, day_
 ghost use Rattle.total.specs.Read.{interval_outcome, place_read};
 ghost use Rattle.cells.specs.Cells.{Told, ToldPlace, Tells};
 
-use interval::{DayTimeRead, YearMonthRead};
-use parse_column::ColumnRead;
-use place::{IntervalRefusal, MaybePlace};
-use refusal::{Read32, Read64};
-use total::IntervalRead;
+use count::Months;
+use interval::IntervalDayTime;
+use parse_column::ColumnRefusal;
+use place::IntervalRefusal;
+use refusal::Refusal;
+use total::Interval;
 
-pub fn put64(r: Read64, out: &mut i64) -> u8
-    ensures { Told (outcome64 r) result out.old out.new }
+// A reader's answer of one cell, whatever its width.
+pub fn put<T: Copy>(r: Result<T, Refusal>, out: &mut T) -> u8
+    ensures { Told (outcome r) result out.old out.new }
 {
     match r {
-        Read64::Value(z) => {
-            *out = z;
+        Ok(value) => {
+            *out = value;
             0
         }
-        Read64::Refused(why) => why.number(),
-    }
-}
-
-pub fn put32(r: Read32, out: &mut i32) -> u8
-    ensures { Told (outcome32 r) result out.old out.new }
-{
-    match r {
-        Read32::Value(z) => {
-            *out = z;
-            0
-        }
-        Read32::Refused(why) => why.number(),
+        Err(why) => why.number(),
     }
 }
 
@@ -44,45 +34,44 @@ pub fn put32(r: Read32, out: &mut i32) -> u8
 pub fn put_place(why: IntervalRefusal, place: &mut usize) -> u8
     ensures { (result ≡ number_of (refusal_of why)) × ToldPlace (place_in why) place.old place.new }
 {
-    match why.place() {
-        MaybePlace::Some(at) => {
-            *place = at;
-            why.number()
-        }
-        MaybePlace::None => why.number(),
+    if let Some(at) = why.place() {
+        *place = at;
     }
+    why.number()
 }
 
-pub fn put_months(r: YearMonthRead, months: &mut i32, place: &mut usize) -> u8
+pub fn put_months(r: Result<Months, IntervalRefusal>, months: &mut i32, place: &mut usize) -> u8
     ensures { Told (year_month_outcome r) result months.old months.new × ToldPlace (year_month_place r) place.old place.new }
 {
     match r {
-        YearMonthRead::Value(v) => {
-            let value = v.0;
-            *months = value;
+        Ok(all) => {
+            *months = all.0;
             0
         }
-        YearMonthRead::Refused(why) => put_place(why, place),
+        Err(why) => put_place(why, place),
     }
 }
 
-pub fn put_day_time(r: DayTimeRead, days: &mut i32, millis: &mut i32, place: &mut usize) -> u8
+pub fn put_day_time(
+    r: Result<IntervalDayTime, IntervalRefusal>,
+    days: &mut i32,
+    millis: &mut i32,
+    place: &mut usize,
+) -> u8
     ensures { Told (day_time_outcome r) result (day_time_of days.old millis.old) (day_time_of days.new millis.new) × ToldPlace (day_time_place r) place.old place.new }
 {
     match r {
-        DayTimeRead::Value(v) => {
-            let d = v.days.0;
-            let m = v.millis.0;
-            *days = d;
-            *millis = m;
+        Ok(both) => {
+            *days = both.days.0;
+            *millis = both.millis.0;
             0
         }
-        DayTimeRead::Refused(why) => put_place(why, place),
+        Err(why) => put_place(why, place),
     }
 }
 
 pub fn put_interval(
-    r: IntervalRead,
+    r: Result<Interval, IntervalRefusal>,
     months: &mut i32,
     days: &mut i32,
     nanos: &mut i64,
@@ -91,29 +80,26 @@ pub fn put_interval(
     ensures { Told (interval_outcome r) result (counts months.old days.old nanos.old) (counts months.new days.new nanos.new) × ToldPlace (place_read r) place.old place.new }
 {
     match r {
-        IntervalRead::Value(v) => {
-            let m = v.months.0;
-            let d = v.days.0;
-            let n = v.nanos.0;
-            *months = m;
-            *days = d;
-            *nanos = n;
+        Ok(interval) => {
+            *months = interval.months.0;
+            *days = interval.days.0;
+            *nanos = interval.nanos.0;
             0
         }
-        IntervalRead::Refused(why) => put_place(why, place),
+        Err(why) => put_place(why, place),
     }
 }
 
 // A column's answer as a status, and the cell that tells which text was refused.
-pub fn put_index(r: ColumnRead, index: &mut usize) -> u8
+pub fn put_index(r: Result<(), ColumnRefusal>, index: &mut usize) -> u8
     ensures { Tells r result index.old index.new }
 {
     match r {
-        ColumnRead::Accepted => 0,
-        ColumnRead::Refused(why, i) => {
+        Ok(()) => 0,
+        Err(ColumnRefusal::Text(why, i)) => {
             *index = i;
             why.number()
         }
-        ColumnRead::NotRead(why) => why.number(),
+        Err(ColumnRefusal::Call(why)) => why.number(),
     }
 }

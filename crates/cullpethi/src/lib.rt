@@ -20,13 +20,13 @@ ghost use Rattle.cullpethi.specs.ColumnNumber.{in_column};
 ghost use Rattle.cullpethi.specs.DefaultUnit.{in_unit, place_in_unit};
 ghost use Rattle.std.specs.Prelude.{length};
 
-use cells::{put_day_time, put_index, put_interval, put_months, put32, put64};
+use cells::{put, put_day_time, put_index, put_interval, put_months};
 use date_column::{Date32Type, Date64Type};
 use interval::{
     parse_interval_day_time, parse_interval_month_day_nano, parse_interval_month_day_nano_config,
     parse_interval_year_month,
 };
-use parse_column::numbers::{ColumnNamed, column_numbered};
+use parse_column::numbers::column_numbered;
 use parse_column::parse_column;
 use site::site_stamp;
 use stamp_column::{
@@ -39,98 +39,97 @@ use time_column::{
 };
 use timestamp::stamp::string_to_timestamp_nanos;
 use total::IntervalParseConfig;
-use unit::UnitRead;
 use unit::numbers::unit_numbered;
 
 // A stamp, in nanoseconds since 1970-01-01.
 pub fn cullpethi_string_to_timestamp_nanos(text: &[u8], nanos: &mut i64) -> u8
     ensures { Told (stamp_nanos text.now) result nanos.old nanos.new }
 {
-    put64(string_to_timestamp_nanos(text), nanos)
+    put(string_to_timestamp_nanos(text), nanos)
 }
 
 // A time of day, in nanoseconds since midnight.
 pub fn cullpethi_string_to_time_nanoseconds(text: &[u8], nanos: &mut i64) -> u8
     ensures { Told (time_nanos text.now) result nanos.old nanos.new }
 {
-    put64(string_to_time_nanoseconds(text), nanos)
+    put(string_to_time_nanoseconds(text), nanos)
 }
 
 // A site stamp, in nanoseconds since 1970-01-01.
 pub fn cullpethi_site_stamp(text: &[u8], nanos: &mut i64) -> u8
     ensures { Told (site_nanos text.now) result nanos.old nanos.new }
 {
-    put64(site_stamp(text), nanos)
+    put(site_stamp(text), nanos)
 }
 
 // A timestamp column in nanoseconds.
 pub fn cullpethi_parse_timestamp_nanosecond(text: &[u8], nanos: &mut i64) -> u8
     ensures { Told (column TimestampNanosecond text.now) result nanos.old nanos.new }
 {
-    put64(TimestampNanosecondType::parse(text), nanos)
+    put(TimestampNanosecondType::parse(text), nanos)
 }
 
 // A timestamp column in microseconds.
 pub fn cullpethi_parse_timestamp_microsecond(text: &[u8], micros: &mut i64) -> u8
     ensures { Told (column TimestampMicrosecond text.now) result micros.old micros.new }
 {
-    put64(TimestampMicrosecondType::parse(text), micros)
+    put(TimestampMicrosecondType::parse(text), micros)
 }
 
 // A timestamp column in milliseconds.
 pub fn cullpethi_parse_timestamp_millisecond(text: &[u8], millis: &mut i64) -> u8
     ensures { Told (column TimestampMillisecond text.now) result millis.old millis.new }
 {
-    put64(TimestampMillisecondType::parse(text), millis)
+    put(TimestampMillisecondType::parse(text), millis)
 }
 
 // A timestamp column in seconds.
 pub fn cullpethi_parse_timestamp_second(text: &[u8], seconds: &mut i64) -> u8
     ensures { Told (column TimestampSecond text.now) result seconds.old seconds.new }
 {
-    put64(TimestampSecondType::parse(text), seconds)
+    put(TimestampSecondType::parse(text), seconds)
 }
 
 // A time column in nanoseconds.
 pub fn cullpethi_parse_time64_nanosecond(text: &[u8], nanos: &mut i64) -> u8
     ensures { Told (column Time64Nanosecond text.now) result nanos.old nanos.new }
 {
-    put64(Time64NanosecondType::parse(text), nanos)
+    put(Time64NanosecondType::parse(text), nanos)
 }
 
 // A time column in microseconds.
 pub fn cullpethi_parse_time64_microsecond(text: &[u8], micros: &mut i64) -> u8
     ensures { Told (column Time64Microsecond text.now) result micros.old micros.new }
 {
-    put64(Time64MicrosecondType::parse(text), micros)
+    put(Time64MicrosecondType::parse(text), micros)
 }
 
 // A date column in milliseconds since 1970-01-01.
 pub fn cullpethi_parse_date64(text: &[u8], millis: &mut i64) -> u8
     ensures { Told (column Date64 text.now) result millis.old millis.new }
 {
-    put64(Date64Type::parse(text), millis)
+    put(Date64Type::parse(text), millis)
 }
 
 // A time column in milliseconds, of 32 bits.
 pub fn cullpethi_parse_time32_millisecond(text: &[u8], millis: &mut i32) -> u8
     ensures { Told (column Time32Millisecond text.now) result millis.old millis.new }
 {
-    put32(Time32MillisecondType::parse(text), millis)
+    put(Time32MillisecondType::parse(text), millis)
 }
 
 // A time column in seconds, of 32 bits.
 pub fn cullpethi_parse_time32_second(text: &[u8], seconds: &mut i32) -> u8
     ensures { Told (column Time32Second text.now) result seconds.old seconds.new }
 {
-    put32(Time32SecondType::parse(text), seconds)
+    put(Time32SecondType::parse(text), seconds)
 }
 
 // A date column in days since 1970-01-01.
 pub fn cullpethi_parse_date32(text: &[u8], days: &mut i32) -> u8
     ensures { Told (column Date32 text.now) result days.old days.new }
 {
-    put32(Date32Type::parse(text), days)
+    put(Date32Type::parse(text), days)
 }
 
 // An interval in months; years are the default unit.
@@ -178,19 +177,20 @@ pub fn cullpethi_parse_interval_month_day_nano_config(
     ensures { Told (in_unit (unit_numbered default_unit) text.now) result (counts months.old days.old nanos.old) (counts months.new days.new nanos.new) × ToldPlace (place_in_unit (unit_numbered default_unit) text.now) place.old place.new }
 {
     match unit_numbered(default_unit) {
-        UnitRead::Unit(unit) => put_interval(
+        Some(unit) => put_interval(
             parse_interval_month_day_nano_config(text, IntervalParseConfig::new(unit)),
             months,
             days,
             nanos,
             place,
         ),
-        UnitRead::None => 255,
+        None => 255,
     }
 }
 
 // A whole column by its number, 0 TimestampNanosecond to 9 Date64: each text by the column's reader, its value into its cell, or the first
 // refused one's number and index; 13 where ends fall or pass the bytes or cells are too few, 255 where there is no such column.
+#[tactic(auto, unfolding(whole_column::specs::Answer::cells_after))]
 pub fn cullpethi_parse_column(
     column: u8,
     texts: &[u8],
@@ -200,8 +200,8 @@ pub fn cullpethi_parse_column(
 ) -> u8
     ensures { ToldColumn (in_column (column_numbered «column») texts.now ends.now (length cells.old)) result index.old index.new cells.old cells.new }
 {
-    match column_numbered(column) {
-        ColumnNamed::Column(column) => put_index(parse_column(column, texts, ends, cells), index),
-        ColumnNamed::None => 255,
-    }
+    let Some(column) = column_numbered(column) else {
+        return 255;
+    };
+    put_index(parse_column(column, texts, ends, cells), index)
 }

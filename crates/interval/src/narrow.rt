@@ -7,17 +7,19 @@ ghost use Rattle.interval.specs.Helpers.{maybe_day_time, in_days, in_millis};
 
 use crate::IntervalDayTime;
 use count::{Days, Millis, Months, Nanos};
-use number::{checked, quotient};
+use number::checked;
 use total::Interval;
 
 // Months times 30 plus days, each step in 32 bits.
+#[tactic(auto, unfolding(crate::specs::Helpers::in_days))]
 pub fn all_days(months: Months, days: Days) -> Option<Days>
     ensures { maybe_days result ≡ in_days months.0 days.0 }
 {
     Days(checked::mul_checked_i32(months.0, 30)?).plus(days)
 }
 
-// Nanoseconds over 1,000,000, where that divides them and the quotient fits.
+// Nanoseconds over 1,000,000, where that divides them and what comes of it fits.
+#[tactic(auto, unfolding(crate::specs::Helpers::in_millis))]
 pub fn all_millis(nanos: Nanos) -> Option<Millis>
     ensures { maybe_millis result ≡ in_millis nanos.0 }
 {
@@ -25,11 +27,11 @@ pub fn all_millis(nanos: Nanos) -> Option<Millis>
     if n % 1_000_000 != 0 {
         return None;
     }
-    let millis = checked::narrow(quotient::to_millis(n))?;
-    Some(Millis(millis))
+    Some(Millis(checked::narrow(n / 1_000_000)?))
 }
 
 // The months, where there are no days and no nanoseconds.
+#[tactic(auto, unfolding(rule::specs::Answer::to_year_months))]
 pub fn to_year_months(interval: Interval) -> Option<Months>
     ensures { maybe_months result ≡ to_year_months (counts_of interval) }
 {
@@ -44,6 +46,7 @@ pub fn to_year_months(interval: Interval) -> Option<Months>
     Some(interval.months)
 }
 
+#[tactic(auto, unfolding(crate::specs::Helpers::in_days, crate::specs::Helpers::in_millis, rule::specs::Answer::to_day_time, rule::specs::Answer::day_time_fits))]
 pub fn to_day_time(interval: Interval) -> Option<IntervalDayTime>
     ensures { maybe_day_time result ≡ to_day_time (counts_of interval) }
 {

@@ -4,6 +4,5 @@ pub mod Ranges
 pub mod Sums
 pub mod Sizes
 pub mod Narrowing
-pub mod Quotients
 pub mod Reading
 pub mod Agreement

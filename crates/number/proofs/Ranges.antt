@@ -21,16 +21,5 @@ rd w z = to_z w (of_z w z)
 abbrev pub top : Width → ℤ
 top w = pos (2 ^ hbits w - 1)
 
-abbrev pub bottom : Width → ℤ
-bottom w = negsuc (2 ^ hbits w - 1)
-
 pub fit_yes : {w : Width} {z : ℤ} → SFits w z → Some (rd w z) ≡ fit (hbits w) z
 fit_yes {w} {z} f = rw (to_z-of_z f, lt-ltb (mag z) (2 ^ hbits w) f.sfits)
-
-pub fit_above : (w : Width) (z : ℤ) → N z + 2 ^ hbits w ≤ P z → None ≡ fit (hbits w) z
-fit_above w (pos n) h = rw (le-ltb n (2 ^ hbits w) (omega arith))
-fit_above w (negsuc n) h = rw (le-ltb n (2 ^ hbits w) (omega arith))
-
-pub fit_below : (w : Width) (z : ℤ) → P z + 2 ^ hbits w < N z → None ≡ fit (hbits w) z
-fit_below w (pos n) h = rw (le-ltb n (2 ^ hbits w) (omega arith))
-fit_below w (negsuc n) h = rw (le-ltb n (2 ^ hbits w) (omega arith))

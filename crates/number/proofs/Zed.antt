@@ -62,10 +62,6 @@ mul_n (negsuc a) k = N-neg (pos (suc a * k))
 
 -- ---- the size of a negation, as the range takes it
 
-pub mag_neg : (n : ℕ) {a : ℕ} → n ≤ suc a → mag (neg_ℤ (pos n)) ≤ a
-mag_neg zero h = omega arith
-mag_neg (suc n) h = omega arith
-
 -- ---- orders and equations
 
 pub le_yes : (a b : ℤ) → le_z a b ≡ true → P a + N b ≤ P b + N a
@@ -80,18 +76,6 @@ le_no (pos a) (negsuc b) e = omega arith
 le_no (negsuc a) (pos b) e = absurd (subst T e tt)
 le_no (negsuc a) (negsuc b) e = omega (arith, leb-false b a e)
 
-pub lt_yes : (a b : ℤ) → lt_z a b ≡ true → P a + N b < P b + N a
-lt_yes (pos a) (pos b) e = omega (arith, ltb-true a b e)
-lt_yes (pos a) (negsuc b) e = absurd (subst T (sym e) tt)
-lt_yes (negsuc a) (pos b) e = omega arith
-lt_yes (negsuc a) (negsuc b) e = omega (arith, ltb-true b a e)
-
-pub lt_no : (a b : ℤ) → lt_z a b ≡ false → P b + N a ≤ P a + N b
-lt_no (pos a) (pos b) e = omega (arith, ltb-false a b e)
-lt_no (pos a) (negsuc b) e = omega arith
-lt_no (negsuc a) (pos b) e = absurd (subst T e tt)
-lt_no (negsuc a) (negsuc b) e = omega (arith, ltb-false b a e)
-
 pub eq_of : (a b : ℤ) → P a + N b ≡ P b + N a → a ≡ b
 eq_of (pos a) (pos b) h = ap pos (omega arith)
 eq_of (pos a) (negsuc b) h = absurd (omega arith)
@@ -99,10 +83,6 @@ eq_of (negsuc a) (pos b) h = absurd (omega arith)
 eq_of (negsuc a) (negsuc b) h = ap negsuc (omega arith)
 
 -- ---- a signed width's range
-
-pub mag_of : (z : ℤ) {m : ℕ} → mag z < m → (P z < N z + m) × (N z ≤ P z + m)
-mag_of (pos n) h = omega arith
-mag_of (negsuc n) h = omega arith
 
 pub of_mag : (z : ℤ) {m : ℕ} → (P z < N z + m) → (N z ≤ P z + m) → mag z < m
 of_mag (pos n) h k = omega arith
@@ -114,17 +94,10 @@ near z b h =
     let l : mag z < b + 1 = of_mag z (omega (arith, h.0)) (omega (arith, h.1)) in
     omega arith
 
-pub of_fits : (w : Width) (z : ℤ) → SFits w z → (P z < N z + 2 ^ hbits w) × (N z ≤ P z + 2 ^ hbits w)
-of_fits w z f = mag_of z f.sfits
-
 pub fits_of : (w : Width) (z : ℤ) → (P z < N z + 2 ^ hbits w) × (N z ≤ P z + 2 ^ hbits w) → SFits w z
 fits_of w z h = record { sfits = of_mag z h.0 h.1 }
 
 -- ---- a number that is not negative, as a cast to an unsigned type takes it, and the size of any
-
-pub nonneg_of : (z : ℤ) → N z ≤ P z → T (non_neg z)
-nonneg_of (pos n) h = tt
-nonneg_of (negsuc n) h = absurd (omega arith)
 
 pub abs_neg : (n : ℕ) → nat_abs (neg_ℤ (pos n)) ≡ n
 abs_neg zero = refl

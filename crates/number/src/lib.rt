@@ -1,7 +1,6 @@
-// Numbers of a width: Rust's `str::parse` on bytes, checked sums and products, sign and size, quotients.
+// Numbers of a width: Rust's `str::parse` on bytes, checked sums and products, sign and size.
 #![tactic(auto)]
 
 pub mod checked;
 pub mod parse;
-pub mod quotient;
 pub mod sign;

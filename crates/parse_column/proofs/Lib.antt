@@ -1,4 +1,3 @@
 mod Order
 mod Passes
 mod Turns
-mod Types

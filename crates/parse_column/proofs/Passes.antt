@@ -10,20 +10,11 @@ use lib.Dec.{leb}
 use lib.IntN.{ℤ}
 use lib.ListN.{length, take, drop, set, length-set, take-append-drop}
 use lib.Seq.{take-suc-set, drop-set-lt, append_snoc}
-use borrow.Author.Tests.{leb-true}
-use Rattle.text.proofs.Bools.{and_left, and_right}
 use Rattle.text.proofs.Logic.{none_some}
 use Rattle.refusal.specs.Outcome.{Outcome, accepted, refused}
 use Rattle.whole_column.specs.Answer.{Whole, all_accepted, first_refused, not_read, in_order, cut, behind, on_text, read_all, whole, stored, cells_after}
 use Rattle.whole_column.proofs.Cells.{as_many, held}
 use Rattle.parse_column.specs.Helpers.{or_later, refused_from, on_value, stored_from}
-
--- no end falls or passes the bytes, and there is a cell for each
-pub fitting : (bytes ends : List ℕ) (cells : ℕ) → in_order (length bytes) 0 ends && leb (length ends) cells ≡ true
-    → (in_order (length bytes) 0 ends ≡ true) × (length ends ≤ cells)
-fitting bytes ends cells e =
-    let b = in_order (length bytes) 0 ends in
-    (and_left b (leb (length ends) cells) e, leb-true (length ends) cells (and_right b (leb (length ends) cells) e))
 
 both : {m n i j : ℕ} → ◌≡◌ {A = Option (ℕ × ℕ)} (Some (m, i)) (Some (n, j)) → (m ≡ n) × (i ≡ j)
 both {m} {n} {i} {j} e =

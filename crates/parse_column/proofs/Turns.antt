@@ -1,20 +1,15 @@
 -- One reading of the texts: a turn of it, its end, and what is found when all are read. Assumes nothing.
 use mathlib.Core.Path.{◌≡◌, refl}
-use mathlib.Core.Bool.{Bool, true, false, cond}
 use mathlib.Core.List.{List, ◌∷◌}
 use Rattle.std.specs.Prelude.{None, Some}
 use Prim.Native.Nat.{ℕ, ◌+◌, ◌-◌, ◌≤◌, ◌<◌}
 use native.Mathlib.Numerals.{add-one}
 use lib.IntN.{ℤ}
-use lib.ListN.{length, get_or, take, drop, set, length-set, drop_of_length-le}
+use lib.ListN.{length, get_or, take, drop, set, drop_of_length-le}
 use Rattle.refusal.specs.Outcome.{Outcome, accepted, refused}
 use Rattle.whole_column.specs.Answer.{cut}
 use Rattle.parse_column.specs.Helpers.{or_later, refused_from, on_value, stored_from}
 use Rattle.parse_column.proofs.Order.{next_end}
-
-same_cells : (b : Bool) (cells : List ℤ) → cond b cells cells ≡ cells
-same_cells true cells = refl
-same_cells false cells = refl
 
 module _ (read : List ℕ → Outcome ℤ) (bytes ends : List ℕ) (from i : ℕ) where
   abbrev pub rest_of : List (List ℕ)
@@ -46,22 +41,6 @@ module _ (read : List ℕ → Outcome ℤ) (bytes ends : List ℕ) (from i : ℕ
     pub keeps : {n : ℕ} (cells : List ℤ) → refused n ≡ read text_at → stored_from read i rest_of cells ≡ cells
     unfolding stored_from on_value
     keeps cells e = rw (this_text, ← e) refl
-
-    module _ (store : Bool) {z : ℤ} (cells after : List ℤ) (e : accepted z ≡ read text_at) where
-      -- what is stored so far and what the later texts store make the whole
-      abbrev Carried : Type 0
-      Carried =
-          (length after ≡ length cells)
-          × (cond store (stored_from read i rest_of cells) cells ≡ cond store (stored_from read (i + 1) behind_it after) after)
-
-      pub stored_one : store ≡ true → after ≡ set cells i z → Carried
-      stored_one t q = rw (t, q) (length-set cells i z, stores cells e)
-
-      pub stored_none : store ≡ false → after ≡ cells → Carried
-      stored_none t q = rw (t, q) (refl, refl)
-
-  pub stored_all : (store : Bool) (cells : List ℤ) → stored_from read i rest_of cells ≡ cells → cond store (stored_from read i rest_of cells) cells ≡ cells
-  stored_all store cells e = rw e (same_cells store cells)
 
   pub none_left : length ends ≤ i → refused_from read i rest_of ≡ None
   unfolding refused_from cut

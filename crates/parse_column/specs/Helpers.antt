@@ -1,13 +1,11 @@
 -- What one reading of the texts finds, text by text from a number on. Assumes nothing.
-use Rattle.std.specs.Prelude.{List, [], ◌∷◌, ℕ, suc, ℤ, set, Option, None, Some}
+use Rattle.std.specs.Prelude.{List, [], ◌∷◌, ℕ, suc, ℤ, set, Option, None, Some, option_map}
+use Rattle.refusal.specs.declared.Refusal.{Refusal}
 use Rattle.refusal.specs.Outcome.{Outcome, accepted, refused, number_of}
-use Rattle.parse_column.specs.declared.texts.FirstRefused.{FirstRefused}
-use Rattle.parse_column.specs.declared.texts.FirstRefused.TheVariants.{None, At}
 
 -- the first refused text's number and index
-abbrev pub refused_at : FirstRefused → Option (ℕ × ℕ)
-refused_at None = None
-refused_at (At why i) = Some (number_of why, i)
+abbrev pub refused_at : Option (Refusal × ℕ) → Option (ℕ × ℕ)
+refused_at = option_map (λ x. (number_of x.0, x.1))
 
 -- an accepted text leaves it to the later ones, a refused one is the first
 unfoldable pub or_later : Outcome ℤ → ℕ → Option (ℕ × ℕ) → Option (ℕ × ℕ)

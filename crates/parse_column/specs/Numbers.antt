@@ -2,8 +2,6 @@
 use Rattle.std.specs.Prelude.{List, [], ◌∷◌, map, ℕ, get_or, Option, None, Some}
 use Rattle.column.specs.declared.Column.{Column}
 use Rattle.column.specs.declared.Column.TheVariants.{TimestampNanosecond, TimestampMicrosecond, TimestampMillisecond, TimestampSecond, Time64Nanosecond, Time64Microsecond, Time32Millisecond, Time32Second, Date32, Date64}
-use Rattle.parse_column.specs.declared.numbers.ColumnNamed.{ColumnNamed}
-use Rattle.parse_column.specs.declared.numbers.ColumnNamed.TheVariants.{Column as Named, None}
 
 -- the columns in the order of their numbers
 abbrev pub columns : List Column
@@ -15,8 +13,3 @@ columns =
 -- the column that a number names
 abbrev pub column_numbered : ℕ → Option Column
 column_numbered n = get_or (map Some columns) n None
-
--- what the code's answer names
-abbrev pub column_named : ColumnNamed → Option Column
-column_named (Named c) = Some c
-column_named None = None

@@ -6,24 +6,19 @@ ghost use Rattle.whole_column.specs.Answer.{in_order};
 pub fn fit(texts: &[u8], ends: &[u32], cells: usize) -> bool
     ensures { result ≡ in_order (length texts.now) 0 ends.now && leb (length ends.now) cells }
 {
-    in_order(texts.len(), ends) & (ends.len() <= cells)
+    in_order(texts.len(), ends) && ends.len() <= cells
 }
 
 fn in_order(bytes: usize, ends: &[u32]) -> bool
     ensures { result ≡ in_order bytes 0 ends.now }
 {
-    let mut i = 0;
     let mut from = 0;
-    while i < ends.len() {
-        let end = ends[i] as usize;
-        if end < from {
-            return false;
-        }
-        if bytes < end {
+    for &end in ends {
+        let end = end as usize;
+        if end < from || bytes < end {
             return false;
         }
         from = end;
-        i += 1;
     }
     true
 }

@@ -1,0 +1,13 @@
+-- `parse_column::texts::store` meets its contract. The loop's invariant: what the texts from here on store, all store. Assumes nothing.
+use mathlib.Core.Path.{◌≡◌}
+use mathlib.Core.Bool.{true}
+use Prim.Native.Nat.{◌≤◌}
+use lib.ListN.{length, drop}
+use Rattle.column.specs.Columns.{column as reading}
+use Rattle.whole_column.specs.Answer.{in_order, cut}
+use Rattle.parse_column.specs.Helpers.{stored_from}
+use Rattle.parse_column.proofs.texts.store.Given as goal
+
+abbrev pub invariant-loop-i : goal.invariant-loop-i
+invariant-loop-i l = (l.from ≤ length l.texts) × (in_order (length l.texts) l.from (drop l.i l.ends) ≡ true)
+    × (stored_from (reading l.column) 0 (cut l.texts 0 l.ends) l.initial.cells ≡ stored_from (reading l.column) l.i (cut l.texts l.from (drop l.i l.ends)) l.cells)
