@@ -1,13 +1,11 @@
 // The answer of each reader, with the unit of its counts behind it.
 use crate::names::Reader;
-use crate::show;
-use crate::show::Shown;
+use crate::show::{Out, Outcome, count, day_time, interval, months};
 use date_column::{Date32Type, Date64Type};
 use interval::{
     parse_interval_day_time, parse_interval_month_day_nano, parse_interval_month_day_nano_config,
     parse_interval_year_month,
 };
-use refusal::{Read32, Read64};
 use site::site_stamp;
 use stamp_column::{
     TimestampMicrosecondType, TimestampMillisecondType, TimestampNanosecondType,
@@ -18,59 +16,37 @@ use time_column::{
     Time32MillisecondType, Time32SecondType, Time64MicrosecondType, Time64NanosecondType,
 };
 use timestamp::stamp::string_to_timestamp_nanos;
-use total::{IntervalParseConfig, IntervalRead};
-use unit::IntervalUnit;
+use total::IntervalParseConfig;
 
-pub fn of(reader: Reader, text: &[u8], n: usize, out: &mut [u8]) -> Shown {
+const NANOS: &[u8] = b" nanoseconds";
+
+const MICROS: &[u8] = b" microseconds";
+
+const MILLIS: &[u8] = b" milliseconds";
+
+const SECONDS: &[u8] = b" seconds";
+
+pub fn of(reader: Reader, text: &[u8], out: &mut Out) -> Outcome {
     match reader {
-        Reader::StampNanos => nanos(string_to_timestamp_nanos(text), n, out),
-        Reader::SiteStamp => nanos(site_stamp(text), n, out),
-        Reader::TimestampNanosecond => nanos(TimestampNanosecondType::parse(text), n, out),
-        Reader::TimestampMicrosecond => micros(TimestampMicrosecondType::parse(text), n, out),
-        Reader::TimestampMillisecond => millis(TimestampMillisecondType::parse(text), n, out),
-        Reader::TimestampSecond => seconds(TimestampSecondType::parse(text), n, out),
-        Reader::TimeNanos => nanos(string_to_time_nanoseconds(text), n, out),
-        Reader::Time64Nanosecond => nanos(Time64NanosecondType::parse(text), n, out),
-        Reader::Time64Microsecond => micros(Time64MicrosecondType::parse(text), n, out),
-        Reader::Time32Millisecond => millis32(Time32MillisecondType::parse(text), n, out),
-        Reader::Time32Second => seconds32(Time32SecondType::parse(text), n, out),
-        Reader::Date32 => days(Date32Type::parse(text), n, out),
-        Reader::Date64 => millis(Date64Type::parse(text), n, out),
-        Reader::Interval => show::interval(parse_interval_month_day_nano(text), n, out),
-        Reader::IntervalIn(unit) => show::interval(interval_in(unit, text), n, out),
-        Reader::IntervalYearMonth => show::months(parse_interval_year_month(text), n, out),
-        Reader::IntervalDayTime => show::day_time(parse_interval_day_time(text), n, out),
+        Reader::StampNanos => count(string_to_timestamp_nanos(text), NANOS, out),
+        Reader::SiteStamp => count(site_stamp(text), NANOS, out),
+        Reader::TimestampNanosecond => count(TimestampNanosecondType::parse(text), NANOS, out),
+        Reader::TimestampMicrosecond => count(TimestampMicrosecondType::parse(text), MICROS, out),
+        Reader::TimestampMillisecond => count(TimestampMillisecondType::parse(text), MILLIS, out),
+        Reader::TimestampSecond => count(TimestampSecondType::parse(text), SECONDS, out),
+        Reader::TimeNanos => count(string_to_time_nanoseconds(text), NANOS, out),
+        Reader::Time64Nanosecond => count(Time64NanosecondType::parse(text), NANOS, out),
+        Reader::Time64Microsecond => count(Time64MicrosecondType::parse(text), MICROS, out),
+        Reader::Time32Millisecond => count(Time32MillisecondType::parse(text), MILLIS, out),
+        Reader::Time32Second => count(Time32SecondType::parse(text), SECONDS, out),
+        Reader::Date32 => count(Date32Type::parse(text), b" days", out),
+        Reader::Date64 => count(Date64Type::parse(text), MILLIS, out),
+        Reader::Interval => interval(parse_interval_month_day_nano(text), out),
+        Reader::IntervalIn(unit) => {
+            let config = IntervalParseConfig::new(unit);
+            interval(parse_interval_month_day_nano_config(text, config), out)
+        }
+        Reader::IntervalYearMonth => months(parse_interval_year_month(text), out),
+        Reader::IntervalDayTime => day_time(parse_interval_day_time(text), out),
     }
-}
-
-fn interval_in(unit: IntervalUnit, text: &[u8]) -> IntervalRead {
-    parse_interval_month_day_nano_config(text, IntervalParseConfig::new(unit))
-}
-
-fn nanos(r: Read64, n: usize, out: &mut [u8]) -> Shown {
-    show::read64(r, b" nanoseconds", n, out)
-}
-
-fn micros(r: Read64, n: usize, out: &mut [u8]) -> Shown {
-    show::read64(r, b" microseconds", n, out)
-}
-
-fn millis(r: Read64, n: usize, out: &mut [u8]) -> Shown {
-    show::read64(r, b" milliseconds", n, out)
-}
-
-fn seconds(r: Read64, n: usize, out: &mut [u8]) -> Shown {
-    show::read64(r, b" seconds", n, out)
-}
-
-fn millis32(r: Read32, n: usize, out: &mut [u8]) -> Shown {
-    show::read32(r, b" milliseconds", n, out)
-}
-
-fn seconds32(r: Read32, n: usize, out: &mut [u8]) -> Shown {
-    show::read32(r, b" seconds", n, out)
-}
-
-fn days(r: Read32, n: usize, out: &mut [u8]) -> Shown {
-    show::read32(r, b" days", n, out)
 }

@@ -1,86 +1,81 @@
 // What the program says of itself.
 use crate::names::Reader;
-use crate::output::Streams;
-use crate::show::refusal;
-use crate::{FAILED, READ, output};
+use crate::output::{Failure, Streams};
+use crate::show::{Out, refusal};
+use crate::{Status, output};
 use refusal::Refusal;
-use room::put;
+use room::Room;
 
-pub fn version(to: Streams) -> u8 {
-    told(output::written(to, 16, b"cullpethi 0.1.0\n"))
+pub fn version(to: Streams) -> Result<Status, Failure> {
+    told(to, b"cullpethi 0.1.0\n")
 }
 
 // The readers' names, where a word names none.
 pub fn names(to: Streams) {
-    output::said(
-        to,
+    let names =
         b"the readers are string_to_timestamp_nanos, site_stamp, timestamp_nanosecond, timestamp_microsecond, \
         timestamp_millisecond, timestamp_second, string_to_time_nanoseconds, time64_nanosecond, time64_microsecond, \
-        time32_millisecond, time32_second, date32, date64, interval, interval_year_month, interval_day_time",
-    );
+        time32_millisecond, time32_second, date32, date64, interval, interval_year_month, interval_day_time";
+    output::said(to, &[names]);
 }
 
-pub fn all(to: Streams) -> u8 {
-    let mut out = [0u8; 65536];
-    let n = usage(0, &mut out);
-    let n = stamps(n, &mut out);
-    let n = times(n, &mut out);
-    let n = dates(n, &mut out);
-    let n = intervals(n, &mut out);
-    let n = refusals(n, &mut out);
-    let n = statuses(n, &mut out);
-    told(output::written(to, n, &out))
+pub fn all(to: Streams) -> Result<Status, Failure> {
+    let mut out = Room::new();
+    usage(&mut out);
+    stamps(&mut out);
+    times(&mut out);
+    dates(&mut out);
+    intervals(&mut out);
+    refusals(&mut out);
+    out.put(
+        b"\nExit status: 0 each text was read, 1 a text was refused or too long, 2 bad usage or no input or output.\n",
+    );
+    told(to, out.as_bytes())
 }
 
 // What one reader reads.
-pub fn one(to: Streams, reader: Reader) -> u8 {
-    let mut out = [0u8; 65536];
-    let n = group(reader, 0, &mut out);
-    let n = put(
-        b"\nThe other readers, the options and the refusals: cullpethi --help\n",
-        n,
-        &mut out,
-    );
-    told(output::written(to, n, &out))
+pub fn one(to: Streams, reader: Reader) -> Result<Status, Failure> {
+    let mut out = Room::new();
+    group(reader, &mut out);
+    out.put(b"\nThe other readers, the options and the refusals: cullpethi --help\n");
+    told(to, out.as_bytes())
 }
 
-fn told(written: bool) -> u8 {
-    if written { READ } else { FAILED }
+fn told(to: Streams, page: &[u8]) -> Result<Status, Failure> {
+    output::written(to, page)?;
+    Ok(Status::Read)
 }
 
 // The readers that read the same texts have one page.
-fn group(reader: Reader, n: usize, out: &mut [u8]) -> usize {
+fn group(reader: Reader, out: &mut Out) {
     match reader {
-        Reader::StampNanos => stamps(n, out),
-        Reader::SiteStamp => stamps(n, out),
-        Reader::TimestampNanosecond => stamps(n, out),
-        Reader::TimestampMicrosecond => stamps(n, out),
-        Reader::TimestampMillisecond => stamps(n, out),
-        Reader::TimestampSecond => stamps(n, out),
-        Reader::TimeNanos => times(n, out),
-        Reader::Time64Nanosecond => times(n, out),
-        Reader::Time64Microsecond => times(n, out),
-        Reader::Time32Millisecond => times(n, out),
-        Reader::Time32Second => times(n, out),
-        Reader::Date32 => dates(n, out),
-        Reader::Date64 => dates(n, out),
-        Reader::Interval => intervals(n, out),
-        Reader::IntervalIn(_) => intervals(n, out),
-        Reader::IntervalYearMonth => intervals(n, out),
-        Reader::IntervalDayTime => intervals(n, out),
+        Reader::StampNanos
+        | Reader::SiteStamp
+        | Reader::TimestampNanosecond
+        | Reader::TimestampMicrosecond
+        | Reader::TimestampMillisecond
+        | Reader::TimestampSecond => stamps(out),
+        Reader::TimeNanos
+        | Reader::Time64Nanosecond
+        | Reader::Time64Microsecond
+        | Reader::Time32Millisecond
+        | Reader::Time32Second => times(out),
+        Reader::Date32 | Reader::Date64 => dates(out),
+        Reader::Interval
+        | Reader::IntervalIn(_)
+        | Reader::IntervalYearMonth
+        | Reader::IntervalDayTime => intervals(out),
     }
 }
 
-fn usage(n: usize, out: &mut [u8]) -> usize {
-    let commands = put(
+fn usage(out: &mut Out) {
+    out.put(
         b"cullpethi READER TEXT       read a text
 cullpethi READER [-]        read each line of standard input, of at most 65536 bytes
 cullpethi READER --help     what the reader reads
 ",
-        n,
-        out,
     );
-    put(
+    out.put(
         b"
   --default UNIT            interval alone: the unit of a last amount that names none; also --default=UNIT
   --number                  the line's number in front of each answer
@@ -89,13 +84,11 @@ cullpethi READER --help     what the reader reads
   --                        every word behind it is the reader or the text
 Any other word that begins with a minus is a text: -5, '-.5 days'. A line ends at its line feed: a carriage return belongs to the text.
 ",
-        commands,
-        out,
-    )
+    );
 }
 
-fn stamps(n: usize, out: &mut [u8]) -> usize {
-    let readers = put(
+fn stamps(out: &mut Out) {
+    out.put(
         b"
 Stamps in UTC, counted from 1970-01-01:
   string_to_timestamp_nanos   in nanoseconds
@@ -104,21 +97,17 @@ Stamps in UTC, counted from 1970-01-01:
                               in that unit, cut toward zero; a text that is refused is read trimmed, with no tab,
                               line feed, form feed, carriage return or space at its ends
 ",
-        n,
-        out,
     );
-    put(
+    out.put(
         b"    yyyy-mm-dd, or with T, t or a space behind it hh:mm:ss, hh:mm:ss.f or hhmmss, and then z, Z or nothing.
     f is a digit or more, of which nine count. Hours 0 to 23, minutes 0 to 59, seconds 0 to 60.
     site_stamp: yyyy-mm-ddThh:mm:ssZ alone, or with .f of 1 to 9 digits, and second 60 only as 23:59:60.
 ",
-        readers,
-        out,
-    )
+    );
 }
 
-fn times(n: usize, out: &mut [u8]) -> usize {
-    let readers = put(
+fn times(out: &mut Out) {
+    out.put(
         b"
 Times of day, counted from midnight:
   string_to_time_nanoseconds  in nanoseconds
@@ -126,62 +115,50 @@ Times of day, counted from midnight:
                               in that unit, cut; a text that is refused is read trimmed, then as an integer of 64 or 32 bits,
                               which is taken as it is
 ",
-        n,
-        out,
     );
-    put(
+    out.put(
         b"    h:mm or hh:mm, or with :ss behind it, or with :ss.f, f being a digit or more, of which nine count; then nothing,
     or one space and AM or PM in either case, with hours 1 to 12. Minutes 0 to 59, seconds 0 to 60.
 ",
-        readers,
-        out,
-    )
+    );
 }
 
-fn dates(n: usize, out: &mut [u8]) -> usize {
-    let readers = put(
+fn dates(out: &mut Out) {
+    out.put(
         b"
 Dates, counted from 1970-01-01:
   date32                      in days; a text that is refused is read trimmed
   date64                      in milliseconds
 ",
-        n,
-        out,
     );
-    put(
+    out.put(
         b"    yyyy-mm-dd, yyyymmdd, or yyyy-m-d with one or two digits for month and day; behind a one-digit form other bytes than
     digits count nothing, up to 10 bytes in all. A sign, a year of four digits or more, -m-d. A longer text with no sign
     is a stamp; for date64 any longer text is.
 ",
-        readers,
-        out,
-    )
+    );
 }
 
-fn intervals(n: usize, out: &mut [u8]) -> usize {
-    let readers = put(
+fn intervals(out: &mut Out) {
+    out.put(
         b"
 Intervals, and the unit of a last amount that names none:
   interval                    in months, days and nanoseconds; month, or as --default says
   interval_year_month         in months; year
   interval_day_time           in days and milliseconds; day
 ",
-        n,
-        out,
     );
-    let grammar = put(
+    out.put(
         b"    AMOUNT UNIT, once or more, with one white space character between two of them, and one or none between an amount and
     its unit. AMOUNT: a minus or nothing, then digits, or digits, a point and 1 to 15 digits, or a point and 1 to 15 digits.
     No unit comes twice.
 ",
-        readers,
-        out,
     );
-    units(grammar, out)
+    units(out);
 }
 
-fn units(n: usize, out: &mut [u8]) -> usize {
-    put(
+fn units(out: &mut Out) {
+    out.put(
         b"  UNIT, in capital or small letters:
     century      c cent cents century centuries
     decade       dec decs decade decades
@@ -196,54 +173,31 @@ fn units(n: usize, out: &mut [u8]) -> usize {
     microsecond  us usec usecs usecond useconds microsecond microseconds
     nanosecond   nanosecond nanoseconds
 ",
-        n,
-        out,
-    )
+    );
 }
 
-fn refusals(n: usize, out: &mut [u8]) -> usize {
-    let n = put(
+fn refusals(out: &mut Out) {
+    out.put(
         b"\nA text that is refused has no value, but a number and what it means; 8, 9 and 10 tell the byte of the text, from 0, where that
 begins, and a text that was an argument, or whose answer goes to a terminal, is shown with a caret below that place:\n",
-        n,
-        out,
     );
-    let n = first_four(n, out);
-    let n = next_four(n, out);
-    last_four(n, out)
-}
-
-fn first_four(n: usize, out: &mut [u8]) -> usize {
-    let n = line(Refusal::NotUtf8, n, out);
-    let n = line(Refusal::Date, n, out);
-    let n = line(Refusal::Separator, n, out);
-    line(Refusal::Time, n, out)
-}
-
-fn next_four(n: usize, out: &mut [u8]) -> usize {
-    let n = line(Refusal::Tail, n, out);
-    let n = line(Refusal::Range, n, out);
-    let n = line(Refusal::TimeOfDay, n, out);
-    line(Refusal::Interval, n, out)
-}
-
-fn last_four(n: usize, out: &mut [u8]) -> usize {
-    let n = line(Refusal::RepeatedUnit, n, out);
-    let n = line(Refusal::Overflow, n, out);
-    let n = line(Refusal::Narrowed, n, out);
-    line(Refusal::SiteStamp, n, out)
-}
-
-fn line(why: Refusal, n: usize, out: &mut [u8]) -> usize {
-    let start = put(b"  ", n, out);
-    let end = refusal(why, start, out);
-    put(b"\n", end, out)
-}
-
-fn statuses(n: usize, out: &mut [u8]) -> usize {
-    put(
-        b"\nExit status: 0 each text was read, 1 a text was refused or too long, 2 bad usage or no input or output.\n",
-        n,
-        out,
-    )
+    // Refusal::Column is of whole columns, which this program does not read.
+    for why in [
+        Refusal::NotUtf8,
+        Refusal::Date,
+        Refusal::Separator,
+        Refusal::Time,
+        Refusal::Tail,
+        Refusal::Range,
+        Refusal::TimeOfDay,
+        Refusal::Interval,
+        Refusal::RepeatedUnit,
+        Refusal::Overflow,
+        Refusal::Narrowed,
+        Refusal::SiteStamp,
+    ] {
+        out.put(b"  ");
+        refusal(why, out);
+        out.put(b"\n");
+    }
 }

@@ -1,13 +1,14 @@
 // The command line: reads a text, or each line of standard input, by the reader that is named, and writes the counts or the refusal.
 #![tactic(auto)]
 
-use names::{Named, Reader};
-use output::Streams;
-use place::MaybePlace;
+use names::Reader;
+use output::{Failure, Streams};
+use room::Room;
+use show::Outcome;
 use std::env::Env;
 use std::io::IsTerminal;
 use std::process::ExitCode;
-use words::Words;
+use words::{Source, Words};
 
 mod answer;
 mod caret;
@@ -18,14 +19,16 @@ mod output;
 mod show;
 mod words;
 
-// Each text was read.
-pub const READ: u8 = 0;
-
-// A text was refused, or too long.
-pub const REFUSED: u8 = 1;
-
-// Bad usage, or no input or output.
-pub const FAILED: u8 = 2;
+// The exit status.
+#[derive(Clone, Copy)]
+pub enum Status {
+    // Each text was read.
+    Read = 0,
+    // A text was refused, or too long.
+    Refused = 1,
+    // Bad usage, or no input or output.
+    Failed = 2,
+}
 
 // What is asked of each text.
 #[derive(Clone, Copy)]
@@ -44,32 +47,34 @@ fn main(rt: HostRuntime) -> ExitCode {
         errors: rt.stderr(),
         alloc: rt.alloc(),
     };
-    ExitCode::from(command(&rt, to))
+    let status = match command(&rt, to) {
+        Ok(status) => status,
+        Err(why) => {
+            output::failed(to, why);
+            Status::Failed
+        }
+    };
+    ExitCode::from(status as u8)
 }
 
-// The status of the command.
-fn command(env: &impl Env, to: Streams) -> u8 {
-    let words = words::all(env, to);
-    if !words.good {
-        return FAILED;
-    }
+fn command(env: &impl Env, to: Streams) -> Result<Status, Failure> {
+    let words = words::all(env, to)?;
     if words.version {
         return help::version(to);
     }
     match words.reader {
-        Named::Is(reader) => with_reader(env, to, words, reader),
-        Named::None => with_none(to, words.help),
+        Some(reader) => with_reader(env, to, words, reader),
+        None if words.help => help::all(to),
+        None => Err(output::bad_usage(to, b"no reader is named")),
     }
 }
 
-fn with_none(to: Streams, help: bool) -> u8 {
-    if help {
-        return help::all(to);
-    }
-    output::bad_usage(to, b"no reader is named")
-}
-
-fn with_reader(env: &impl Env, to: Streams, words: Words, reader: Reader) -> u8 {
+fn with_reader(
+    env: &impl Env,
+    to: Streams,
+    words: Words,
+    reader: Reader,
+) -> Result<Status, Failure> {
     if words.help {
         return help::one(to, reader);
     }
@@ -78,36 +83,27 @@ fn with_reader(env: &impl Env, to: Streams, words: Words, reader: Reader) -> u8 
         number: words.number,
         caret: to.output.is_terminal(),
     };
-    if words.text == 0 {
-        return input::each(to, asked);
+    match words.source {
+        Some(Source::Argument(at)) => one_text(env, to, at, asked),
+        Some(Source::Input) | None => input::each(to, asked),
     }
-    one_text(env, to, words.text, asked)
 }
 
 // The argument is there, so all that can be wrong is its length.
-fn one_text(env: &impl Env, to: Streams, at: usize, asked: Asked) -> u8 {
+fn one_text(env: &impl Env, to: Streams, at: usize, asked: Asked) -> Result<Status, Failure> {
     let mut space = [0u8; 65536];
     match env.arg(at, &mut space) {
-        Ok(n) => answered(to, &space[..n], true, asked),
-        Err(_) => answered(to, b"", false, asked),
+        Ok(n) => answered(to, Some(&space[..n]), asked),
+        Err(_) => answered(to, None, asked),
     }
 }
 
-fn answered(to: Streams, text: &[u8], whole: bool, asked: Asked) -> u8 {
-    let mut out = [0u8; 4096];
-    let shown = show::line(asked, 1, text, whole, 0, &mut out);
-    if !output::written(to, shown.n, &out) {
-        return FAILED;
+fn answered(to: Streams, text: Option<&[u8]>, asked: Asked) -> Result<Status, Failure> {
+    let mut out = Room::new();
+    let outcome = show::line(asked, 1, text, &mut out);
+    output::written(to, out.as_bytes())?;
+    if let (Outcome::Refused(Some(place)), Some(text)) = (outcome, text) {
+        caret::below(to, text, place)?;
     }
-    match shown.place {
-        MaybePlace::Some(place) => shown_below(to, text, place, shown.status),
-        MaybePlace::None => shown.status,
-    }
-}
-
-fn shown_below(to: Streams, text: &[u8], place: usize, status: u8) -> u8 {
-    if caret::below(to, text, place) {
-        return status;
-    }
-    FAILED
+    Ok(outcome.status())
 }

@@ -1,6 +1,5 @@
 // What is written to standard output and to standard error.
-use crate::FAILED;
-use room::put;
+use room::Room;
 use std::alloc::Global;
 use std::io;
 use std::io::{Stderr, Stdin, Stdout};
@@ -14,25 +13,41 @@ pub struct Streams {
     pub alloc: Global,
 }
 
-// Writes the first n bytes to standard output; where some of them are lost, says so.
-pub fn written(to: Streams, n: usize, out: &[u8]) -> bool {
-    if out.len() < n {
-        return false;
-    }
-    match to.output.write_all(&out[..n]) {
-        Ok(()) => true,
-        Err(why) => {
-            failed(to, b"standard output", why);
-            false
-        }
+// Why the program ends before its time.
+#[derive(Drop)]
+pub enum Failure {
+    // Bad usage, of which standard error tells already.
+    Usage,
+    // Standard input cannot be read.
+    Input(io::Error),
+    // Standard output cannot be written.
+    Output(io::Error),
+}
+
+impl From<io::Error> for Failure {
+    fn from(why: io::Error) -> Failure {
+        Failure::Input(why)
     }
 }
 
-// Says what failed, and why: the system's words, without the number that stands behind them.
-pub fn failed(to: Streams, what: &[u8], why: io::Error) {
+pub fn written(to: Streams, out: &[u8]) -> Result<(), Failure> {
+    to.output.write_all(out).map_err(Failure::Output)
+}
+
+// Says what failed, and why.
+pub fn failed(to: Streams, why: Failure) {
+    match why {
+        Failure::Usage => (),
+        Failure::Input(why) => failed_by(to, b"standard input", why),
+        Failure::Output(why) => failed_by(to, b"standard output", why),
+    }
+}
+
+// The system's words, without the number that stands behind them.
+fn failed_by(to: Streams, what: &[u8], why: io::Error) {
     match why.to_string(to.alloc) {
-        Ok(text) => failed_by(to, what, words_of(text.as_str()).as_bytes()),
-        Err(_) => failed_by(to, what, b"out of memory"),
+        Ok(text) => said(to, &[what, b": ", words_of(text.as_str()).as_bytes()]),
+        Err(_) => said(to, &[what, b": out of memory"]),
     }
 }
 
@@ -43,37 +58,24 @@ fn words_of(text: &str) -> &str {
     }
 }
 
-fn failed_by(to: Streams, what: &[u8], why: &[u8]) {
-    let mut line = [0u8; 4096];
-    let failed = put(what, 0, &mut line);
-    let colon = put(b": ", failed, &mut line);
-    let n = put(why, colon, &mut line);
-    said(to, &line[..n]);
-}
-
 // One line on standard error, behind the program's name.
-pub fn said(to: Streams, what: &[u8]) {
-    let mut line = [0u8; 4096];
-    let name = put(b"cullpethi: ", 0, &mut line);
-    let words = put(what, name, &mut line);
-    let n = put(b"\n", words, &mut line);
-    let _ = to.errors.write_all(&line[..n]);
+pub fn said(to: Streams, parts: &[&[u8]]) {
+    let mut line = Room::<4096>::new();
+    line.put(b"cullpethi: ");
+    for part in parts {
+        line.put(part);
+    }
+    line.put(b"\n");
+    let _ = to.errors.write_all(line.as_bytes());
 }
 
-pub fn bad_usage(to: Streams, what: &[u8]) -> u8 {
-    let mut line = [0u8; 4096];
-    let words = put(what, 0, &mut line);
-    let n = put(b" (see cullpethi --help)", words, &mut line);
-    said(to, &line[..n]);
-    FAILED
+pub fn bad_usage(to: Streams, what: &[u8]) -> Failure {
+    said(to, &[what, b" (see cullpethi --help)"]);
+    Failure::Usage
 }
 
 // A word of the command line that is bad is named.
-pub fn bad_word(to: Streams, what: &[u8], word: &[u8]) -> u8 {
-    let mut line = [0u8; 4096];
-    let words = put(what, 0, &mut line);
-    let colon = put(b": '", words, &mut line);
-    let named = put(word, colon, &mut line);
-    let n = put(b"'", named, &mut line);
-    bad_usage(to, &line[..n])
+pub fn bad_word(to: Streams, what: &[u8], word: &[u8]) -> Failure {
+    said(to, &[what, b": '", word, b"' (see cullpethi --help)"]);
+    Failure::Usage
 }

@@ -1,253 +1,154 @@
 // The words of the command line.
-use crate::names::{Named, Reader};
-use crate::output::Streams;
-use crate::{help, names, output};
-use lines::input::find;
+use crate::names::Reader;
+use crate::output::{Failure, Streams};
+use crate::{help, output};
+use lines::input::split_once;
 use std::env::{Env, FillError};
-use unit::{IntervalUnit, UnitRead};
+use unit::IntervalUnit;
+
+// Where the texts come from.
+#[derive(Clone, Copy)]
+pub enum Source {
+    // The argument of that number is the text.
+    Argument(usize),
+    // Standard input is named, by `-`.
+    Input,
+}
+
+// What the next word is.
+#[derive(Clone, Copy)]
+enum Expected {
+    // An option, or else the reader or the text.
+    Any,
+    // The unit of `--default`.
+    Unit,
+    // The reader or the text: `--` has ended the options.
+    Operand,
+}
 
 // What the words up to some place say.
 #[derive(Clone, Copy)]
 pub struct Words {
-    pub reader: Named,
+    pub reader: Option<Reader>,
     // The unit of `--default`.
-    unit: UnitRead,
+    unit: Option<IntervalUnit>,
     pub help: bool,
     pub version: bool,
     pub number: bool,
-    // Which argument is the text; 0 for standard input.
-    pub text: usize,
-    // Whether standard input is named, by `-`.
-    input: bool,
-    // Whether `--default` has no unit yet.
-    wants_unit: bool,
-    // Whether `--` has ended the options.
-    ended: bool,
-    // Whether no word is bad so far; where one is, a message has been written.
-    pub good: bool,
+    pub source: Option<Source>,
+    expected: Expected,
 }
 
 // What the words behind the program's name say.
-pub fn all(env: &impl Env, to: Streams) -> Words {
+pub fn all(env: &impl Env, to: Streams) -> Result<Words, Failure> {
     let mut words = Words {
-        reader: Named::None,
-        unit: UnitRead::None,
+        reader: None,
+        unit: None,
         help: false,
         version: false,
         number: false,
-        text: 0,
-        input: false,
-        wants_unit: false,
-        ended: false,
-        good: true,
+        source: None,
+        expected: Expected::Any,
     };
     let mut space = [0u8; 4096];
     for at in 1..usize::MAX {
-        if !words.good {
-            break;
-        }
         match env.arg(at, &mut space) {
-            Ok(n) => words = next(to, words, &space[..n], at),
+            Ok(n) => words.take(to, &space[..n], at)?,
             // A longer word is a text, or else bad: it is none of the words below.
-            Err(FillError::TooLong) => words = next(to, words, b"", at),
+            Err(FillError::TooLong) => words.take(to, b"", at)?,
             Err(FillError::NotPresent) => break,
         }
     }
-    words.finished(to)
-}
-
-fn next(to: Streams, words: Words, word: &[u8], at: usize) -> Words {
-    if words.wants_unit {
-        return words.with_unit(to, word);
-    }
-    if words.ended {
-        return words.with_operand(to, word, at);
-    }
-    words.with_option(to, word, at)
+    words.check(to)?;
+    Ok(words)
 }
 
 impl Words {
-    // Looks at what only the end can tell.
-    fn finished(self, to: Streams) -> Words {
-        if !self.good {
-            return self;
-        }
-        if self.wants_unit {
-            output::bad_usage(to, b"no unit behind --default");
-            return self.stopped();
-        }
-        let unit = self.unit;
-        match unit {
-            UnitRead::Unit(_) => self.takes_default(to),
-            UnitRead::None => self,
-        }
-    }
-
-    fn takes_default(self, to: Streams) -> Words {
-        let reader = self.reader;
-        match reader {
-            Named::Is(r) => {
-                if names::takes_default(r) {
-                    return self;
-                }
-                output::bad_usage(to, b"--default is for interval alone");
-                self.stopped()
-            }
-            Named::None => self,
-        }
-    }
-
     // The reader, with the unit of `--default`.
-    pub fn with_default(self, reader: Reader) -> Reader {
-        let unit = self.unit;
-        match unit {
-            UnitRead::Unit(u) => Reader::IntervalIn(u),
-            UnitRead::None => reader,
+    pub fn with_default(&self, reader: Reader) -> Reader {
+        self.unit.map_or(reader, Reader::IntervalIn)
+    }
+
+    // What only the end can tell.
+    fn check(&self, to: Streams) -> Result<(), Failure> {
+        if let Expected::Unit = self.expected {
+            return Err(output::bad_usage(to, b"no unit behind --default"));
+        }
+        match (self.unit, self.reader) {
+            (None, _) | (_, None | Some(Reader::Interval)) => Ok(()),
+            (Some(_), Some(_)) => {
+                Err(output::bad_usage(to, b"--default is for interval alone"))
+            },
         }
     }
 
-    // An option, or else a reader or a text.
-    fn with_option(mut self, to: Streams, word: &[u8], at: usize) -> Words {
+    fn take(&mut self, to: Streams, word: &[u8], at: usize) -> Result<(), Failure> {
+        match self.expected {
+            Expected::Any => self.take_any(to, word, at),
+            Expected::Unit => self.take_unit(to, word),
+            Expected::Operand => self.take_operand(to, word, at),
+        }
+    }
+
+    fn take_any(&mut self, to: Streams, word: &[u8], at: usize) -> Result<(), Failure> {
         match word {
-            b"--" => {
-                self.ended = true;
-                self
+            b"--" => self.expected = Expected::Operand,
+            b"-h" | b"--help" => self.help = true,
+            b"-V" | b"--version" => self.version = true,
+            b"--number" => self.number = true,
+            b"--default" => self.expected = Expected::Unit,
+            b"-" => return self.take_input(to),
+            _ => {
+                return match split_once(word, b'=') {
+                    Some((b"--default", unit)) => self.take_unit(to, unit),
+                    _ => self.take_operand(to, word, at),
+                };
             }
-            b"-h" | b"--help" => {
-                self.help = true;
-                self
-            }
-            b"-V" | b"--version" => {
-                self.version = true;
-                self
-            }
-            b"--number" => {
-                self.number = true;
-                self
-            }
-            b"--default" => {
-                self.wants_unit = true;
-                self
-            }
-            b"-" => self.with_input(to),
-            _ => self.with_unit_behind(to, word, at),
         }
+        Ok(())
     }
 
-    // `--default=` with its unit in the same word.
-    fn with_unit_behind(self, to: Streams, word: &[u8], at: usize) -> Words {
-        let end = find(word, b'=');
-        if word.len() <= end {
-            return self.with_operand(to, word, at);
-        }
-        match &word[..end] {
-            b"--default" => {
-                let unit = end + 1;
-                self.with_unit(to, &word[unit..])
-            }
-            _ => self.with_operand(to, word, at),
-        }
-    }
-
-    fn with_unit(self, to: Streams, word: &[u8]) -> Words {
-        let unit = IntervalUnit::from_str(word);
-        match unit {
-            UnitRead::Unit(u) => self.in_unit(u),
-            UnitRead::None => self.bad(to, b"no such unit", word),
-        }
-    }
-
-    // The same words with a default unit.
-    fn in_unit(self, unit: IntervalUnit) -> Words {
-        let reader = self.reader;
-        Words {
-            reader,
-            unit: UnitRead::Unit(unit),
-            help: self.help,
-            version: self.version,
-            number: self.number,
-            text: self.text,
-            input: self.input,
-            wants_unit: false,
-            ended: self.ended,
-            good: self.good,
-        }
+    fn take_unit(&mut self, to: Streams, word: &[u8]) -> Result<(), Failure> {
+        let Some(unit) = IntervalUnit::from_str(word) else {
+            return Err(output::bad_word(to, b"no such unit", word));
+        };
+        self.unit = Some(unit);
+        self.expected = Expected::Any;
+        Ok(())
     }
 
     // Standard input takes the place of a text.
-    fn with_input(mut self, to: Streams) -> Words {
-        let reader = self.reader;
-        match reader {
-            Named::Is(_) => {
-                if self.input | (self.text != 0) {
-                    return self.bad(to, b"more than one text", b"-");
-                }
-                self.input = true;
-                self
-            }
-            Named::None => self.bad_reader(to, b"-"),
+    fn take_input(&mut self, to: Streams) -> Result<(), Failure> {
+        if self.reader.is_none() {
+            return Err(no_such_reader(to, b"-"));
         }
+        if self.source.is_some() {
+            return Err(output::bad_word(to, b"more than one text", b"-"));
+        }
+        self.source = Some(Source::Input);
+        Ok(())
     }
 
     // The first word is the reader, the second the text.
-    fn with_operand(self, to: Streams, word: &[u8], at: usize) -> Words {
-        let reader = self.reader;
-        match reader {
-            Named::Is(_) => self.with_text(to, word, at),
-            Named::None => self.with_reader(to, word),
+    fn take_operand(&mut self, to: Streams, word: &[u8], at: usize) -> Result<(), Failure> {
+        if self.reader.is_none() {
+            self.reader = Reader::named(word);
+            return match self.reader {
+                Some(_) => Ok(()),
+                None => Err(no_such_reader(to, word)),
+            };
         }
-    }
-
-    fn with_text(mut self, to: Streams, word: &[u8], at: usize) -> Words {
-        if self.input | (self.text != 0) {
-            return self.bad(
-                to,
-                b"more than one text; one with spaces stands in quotes",
-                word,
-            );
+        if self.source.is_some() {
+            let what = b"more than one text; one with spaces stands in quotes";
+            return Err(output::bad_word(to, what, word));
         }
-        self.text = at;
-        self
+        self.source = Some(Source::Argument(at));
+        Ok(())
     }
+}
 
-    fn with_reader(self, to: Streams, word: &[u8]) -> Words {
-        let reader = names::reader_of(word);
-        match reader {
-            Named::Is(r) => self.by_reader(r),
-            Named::None => self.bad_reader(to, word),
-        }
-    }
-
-    // The same words with a reader.
-    fn by_reader(self, reader: Reader) -> Words {
-        let unit = self.unit;
-        Words {
-            reader: Named::Is(reader),
-            unit,
-            help: self.help,
-            version: self.version,
-            number: self.number,
-            text: self.text,
-            input: self.input,
-            wants_unit: self.wants_unit,
-            ended: self.ended,
-            good: self.good,
-        }
-    }
-
-    fn bad_reader(self, to: Streams, word: &[u8]) -> Words {
-        output::bad_word(to, b"no such reader", word);
-        help::names(to);
-        self.stopped()
-    }
-
-    fn bad(self, to: Streams, what: &[u8], word: &[u8]) -> Words {
-        output::bad_word(to, what, word);
-        self.stopped()
-    }
-
-    fn stopped(mut self) -> Words {
-        self.good = false;
-        self
-    }
+fn no_such_reader(to: Streams, word: &[u8]) -> Failure {
+    let why = output::bad_word(to, b"no such reader", word);
+    help::names(to);
+    why
 }

@@ -1,73 +1,56 @@
 // Texts as lines write them: `\xHH` is a byte, any other byte stands for itself.
-ghost use Rattle.std.specs.Prelude.{◌≡◌, ◌∷◌, ◌+◌, ◌<◌, length, take, drop};
-ghost use Rattle.io.specs.Counts.{IsPrefixLen};
-ghost use Rattle.lines.specs.Escape.{hex_worth, unescaped};
+ghost use Rattle.std.specs.Prelude.{◌≡◌, [], ◌∷◌, ◌+◌, ◌<◌, None, Some, length, take, drop, IfSome, MatchOption};
+ghost use Rattle.lines.specs.Escape.{escaped, hex_worth, unescaped};
 
-// Puts the text that is written into `out`, as far as there is room, and tells its length.
-pub fn unescape(s: &[u8], out: &mut [u8]) -> usize
-    ensures { IsPrefixLen result out.new × (take result out.new ≡ take (length out.old) (unescaped s.now)) }
+use room::Room;
+
+// Puts the text that is written in the place of what is held, as far as there is room.
+#[tactic(auto, using(crate::proofs::Escapes::unescaping))]
+pub fn unescape<const N: usize>(s: &[u8], out: &mut Room<N>)
+    ensures { out.new ≡ take N (unescaped s.now) }
 {
-    let mut i = 0;
-    let mut n = 0;
-    while i < s.len() {
-        if out.len() <= n {
-            return n;
-        }
-        let u = unit_at(s, i);
-        out[n] = u.byte;
-        i = u.next;
-        n += 1;
+    out.clear();
+    let mut rest = s;
+    while let Some((byte, behind)) = first(rest) {
+        out.put(&[byte]);
+        rest = behind;
     }
-    n
 }
 
-// A byte of a text, and the place after what writes it.
-#[derive(Clone, Copy)]
-struct Unit {
-    byte: u8,
-    next: usize,
+// The first byte of a text, and what stands behind what writes it.
+#[tactic(auto, using(crate::proofs::Escapes::as_escaped, crate::proofs::Escapes::as_it_stands))]
+fn first(s: &[u8]) -> Option<(u8, &[u8])>
+    ensures { MatchOption result (s.now ≡ []) (λ x. (unescaped s.now ≡ x.0 ∷ unescaped x.1.now) × (length x.1.now < length s.now)) }
+{
+    if let Some(escape) = escape(s) {
+        return Some(escape);
+    }
+    match s {
+        [b, rest @ ..] => Some((*b, rest)),
+        [] => None,
+    }
 }
 
-fn unit_at(s: &[u8], at: usize) -> Unit
-    requires { at < length s.now }
-    ensures { (at < result.next) × (unescaped (drop at s.now) ≡ result.byte ∷ unescaped (drop result.next s.now)) }
+// The byte that an escape in front of a text writes, and what stands behind the escape.
+#[tactic(auto, using(crate::proofs::Escapes::too_short), unfolding(crate::specs::Escape::escaped))]
+fn escape(s: &[u8]) -> Option<(u8, &[u8])>
+    ensures { MatchOption result (escaped s.now ≡ None) (λ x. (escaped s.now ≡ Some x.0) × (x.1.now ≡ drop 4 s.now) × (length x.1.now + 4 ≡ length s.now)) }
 {
-    let b = s[at];
-    if s.len() - at < 4 {
-        return plain(b, at);
+    match s {
+        [b'\\', b'x', high, low, rest @ ..] => Some((hex(*high)? * 16 + hex(*low)?, rest)),
+        _ => None,
     }
-    let x = s[at + 1];
-    let high = hex(s[at + 2]);
-    let low = hex(s[at + 3]);
-    if (b == b'\\') & (x == b'x') & (high < 16) & (low < 16) {
-        return Unit {
-            byte: high * 16 + low,
-            next: at + 4,
-        };
-    }
-    plain(b, at)
 }
 
-// What a hexadecimal digit in capitals is worth, 16 for any other byte.
-fn hex(b: u8) -> u8
-    ensures { result ≡ hex_worth b }
+// What a hexadecimal digit in capitals is worth.
+#[tactic(auto, unfolding(crate::specs::Escape::hex_worth))]
+fn hex(b: u8) -> Option<u8>
+    ensures value { result ≡ hex_worth b }
+    ensures bound { IfSome result (λ n. n < 16) }
 {
-    if (b'0' <= b) & (b <= b'9') {
-        return b - 48;
-    }
-    if (b'A' <= b) & (b <= b'F') {
-        return b - 55;
-    }
-    16
-}
-
-// A byte that stands for itself.
-fn plain(b: u8, at: usize) -> Unit
-    requires { at < 18446744073709551615 }
-    ensures { (result.byte ≡ b) × (result.next ≡ at + 1) }
-{
-    Unit {
-        byte: b,
-        next: at + 1,
+    match b {
+        b'0'..=b'9' => Some(b - 48),
+        b'A'..=b'F' => Some(b - 55),
+        _ => None,
     }
 }

@@ -1,59 +1,39 @@
 // Lines of an input that comes in pieces.
-ghost use Rattle.std.specs.Prelude.{◌≡◌, suc, ◌+◌, ◌≤◌, ◌<◌, min, length, take};
-ghost use Rattle.io.specs.Counts.{IsPrefixLen};
-ghost use Rattle.lines.specs.Line.{before, taken};
+ghost use Rattle.std.specs.Prelude.{◌≡◌, suc, ◌<◌, length, take, drop, MatchOption};
+ghost use Rattle.lines.specs.Line.{before};
 ghost use Rattle.room.specs.Room.{appended};
 
-use crate::Taken;
-use room::put;
+use room::Room;
 
-// The place of the first such byte, or the end.
-pub fn find(s: &[u8], b: u8) -> usize
-    ensures { (result ≡ before b s.now) × IsPrefixLen result s.now }
+// The place of the first such byte.
+fn find(s: &[u8], b: u8) -> Option<usize>
+    ensures { MatchOption result (before b s.now ≡ length s.now) (λ i. (i ≡ before b s.now) × (i < length s.now)) }
 {
-    let mut i = 0;
-    while i < s.len() {
-        if s[i] == b {
-            return i;
+    s.iter().position(|&x| x == b)
+}
+
+// What stands before the first such byte, and what behind it.
+pub fn split_once(s: &[u8], b: u8) -> Option<(&[u8], &[u8])>
+    ensures { MatchOption result (before b s.now ≡ length s.now) (λ x. (before b s.now < length s.now) × (x.0.now ≡ take (before b s.now) s.now) × (x.1.now ≡ drop (suc (before b s.now)) s.now)) }
+{
+    let at = find(s, b)?;
+    Some((&s[..at], &s[at + 1..]))
+}
+
+// Puts the bytes up to the next line feed behind those of the line that are held, and tells what stands behind that line feed.
+// Where none comes, the line goes on in the next piece.
+pub fn take_line<'a, const N: usize>(input: &'a [u8], line: &mut Room<N>) -> Option<&'a [u8]>
+    ensures line_after { line.new ≡ appended N line.old (take (before 0x0A input.now) input.now) }
+    ensures rest { MatchOption result (before 0x0A input.now ≡ length input.now) (λ x. (before 0x0A input.now < length input.now) × (x.now ≡ drop (suc (before 0x0A input.now)) input.now)) }
+{
+    match split_once(input, b'\n') {
+        Some((end, rest)) => {
+            line.put(end);
+            Some(rest)
         }
-        i += 1;
+        None => {
+            line.put(input);
+            None
+        }
     }
-    i
-}
-
-// Puts the bytes up to the next line feed behind those of the line that are held.
-pub fn take_line(input: &[u8], line: &mut [u8], held: usize) -> Taken
-    ensures value { result ≡ taken input.now (length line.old) held }
-    ensures line_after { take result.held line.new ≡ appended held (take (before 0x0A input.now) input.now) line.old }
-    ensures input_bound { (min 1 (length input.now) ≤ result.next) × (result.next ≤ length input.now) }
-{
-    let end = find(input, b'\n');
-    put(&input[..end], held, line);
-    let n = held_then(held, end, line.len());
-    if end < input.len() {
-        return Taken {
-            held: n,
-            next: end + 1,
-            ended: true,
-        };
-    }
-    Taken {
-        held: n,
-        next: end,
-        ended: false,
-    }
-}
-
-// How many bytes are held with some more, at most one more than there is room for.
-fn held_then(held: usize, more: usize, room: usize) -> usize
-    requires { room < 18446744073709551615 }
-    ensures { result ≡ min (held + more) (suc room) }
-{
-    if room < held {
-        return room + 1;
-    }
-    if room - held < more {
-        return room + 1;
-    }
-    held + more
 }

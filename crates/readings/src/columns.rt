@@ -1,55 +1,33 @@
-// Stamps, times of day, dates and their columns. Each function tells whether the name is one of its readers.
-use crate::show;
+// Stamps, times of day, dates and their columns.
 use date_column::{Date32Type, Date64Type};
+use refusal::Refusal;
+use site::site_stamp;
 use stamp_column::{
     TimestampMicrosecondType, TimestampMillisecondType, TimestampNanosecondType,
     TimestampSecondType,
 };
-use std::io;
+use time::string_to_time_nanoseconds;
 use time_column::{
     Time32MillisecondType, Time32SecondType, Time64MicrosecondType, Time64NanosecondType,
 };
+use timestamp::stamp::string_to_timestamp_nanos;
 
-pub fn of(out: &impl Print, name: &[u8], text: &[u8]) -> io::Result<bool> {
-    if stamp(out, name, text)? {
-        return Ok(true);
-    }
-    if time(out, name, text)? {
-        return Ok(true);
-    }
-    date(out, name, text)
-}
-
-fn stamp(out: &impl Print, name: &[u8], text: &[u8]) -> io::Result<bool> {
-    match name {
-        b"stamp" => show::read64(out, timestamp::stamp::string_to_timestamp_nanos(text))?,
-        b"site" => show::read64(out, site::site_stamp(text))?,
-        b"ts_ns" => show::read64(out, TimestampNanosecondType::parse(text))?,
-        b"ts_us" => show::read64(out, TimestampMicrosecondType::parse(text))?,
-        b"ts_ms" => show::read64(out, TimestampMillisecondType::parse(text))?,
-        b"ts_s" => show::read64(out, TimestampSecondType::parse(text))?,
-        _ => return Ok(false),
-    }
-    Ok(true)
-}
-
-fn time(out: &impl Print, name: &[u8], text: &[u8]) -> io::Result<bool> {
-    match name {
-        b"time" => show::read64(out, time::string_to_time_nanoseconds(text))?,
-        b"t64_ns" => show::read64(out, Time64NanosecondType::parse(text))?,
-        b"t64_us" => show::read64(out, Time64MicrosecondType::parse(text))?,
-        b"t32_ms" => show::read32(out, Time32MillisecondType::parse(text))?,
-        b"t32_s" => show::read32(out, Time32SecondType::parse(text))?,
-        _ => return Ok(false),
-    }
-    Ok(true)
-}
-
-fn date(out: &impl Print, name: &[u8], text: &[u8]) -> io::Result<bool> {
-    match name {
-        b"date32" => show::read32(out, Date32Type::parse(text))?,
-        b"date64" => show::read64(out, Date64Type::parse(text))?,
-        _ => return Ok(false),
-    }
-    Ok(true)
+// What the reader of a name answers, where it is one of theirs.
+pub fn of(name: &[u8], text: &[u8]) -> Option<Result<i64, Refusal>> {
+    Some(match name {
+        b"stamp" => string_to_timestamp_nanos(text),
+        b"site" => site_stamp(text),
+        b"ts_ns" => TimestampNanosecondType::parse(text),
+        b"ts_us" => TimestampMicrosecondType::parse(text),
+        b"ts_ms" => TimestampMillisecondType::parse(text),
+        b"ts_s" => TimestampSecondType::parse(text),
+        b"time" => string_to_time_nanoseconds(text),
+        b"t64_ns" => Time64NanosecondType::parse(text),
+        b"t64_us" => Time64MicrosecondType::parse(text),
+        b"t32_ms" => Time32MillisecondType::parse(text).map(i64::from),
+        b"t32_s" => Time32SecondType::parse(text).map(i64::from),
+        b"date32" => Date32Type::parse(text).map(i64::from),
+        b"date64" => Date64Type::parse(text),
+        _ => return None,
+    })
 }

@@ -1,76 +1,59 @@
-// Intervals. `of` tells whether the name is one of their readers.
+// Intervals.
 use crate::show;
-use interval::{DayTimeRead, YearMonthRead};
+use interval::{
+    parse_interval_day_time, parse_interval_month_day_nano, parse_interval_month_day_nano_config,
+    parse_interval_year_month,
+};
 use lines::names::default_unit;
-use place::{IntervalRefusal, MaybePlace};
+use place::IntervalRefusal;
 use std::io;
-use total::{IntervalParseConfig, IntervalRead};
-use unit::{IntervalUnit, UnitRead};
+use total::{Interval, IntervalParseConfig};
 
-pub fn of(out: &impl Print, name: &[u8], text: &[u8]) -> io::Result<bool> {
-    match name {
-        b"interval" => show_interval(out, interval::parse_interval_month_day_nano(text))?,
-        b"year_month" => show_months(out, interval::parse_interval_year_month(text))?,
-        b"day_time" => show_day_time(out, interval::parse_interval_day_time(text))?,
-        _ => match default_unit(name) {
-            UnitRead::Unit(u) => config(out, text, u)?,
-            UnitRead::None => return Ok(false),
+// Shows what the reader of a name answers, where it is one of theirs.
+pub fn of(out: &impl Print, name: &[u8], text: &[u8]) -> Option<io::Result<()>> {
+    Some(match name {
+        b"interval" => interval(out, parse_interval_month_day_nano(text)),
+        b"year_month" => match parse_interval_year_month(text) {
+            Ok(x) => counts(out, &[i64::from(x.0)]),
+            Err(why) => refused(out, why),
         },
-    }
-    Ok(true)
-}
-
-fn config(out: &impl Print, text: &[u8], default_unit: IntervalUnit) -> io::Result<()> {
-    show_interval(
-        out,
-        interval::parse_interval_month_day_nano_config(
-            text,
-            IntervalParseConfig::new(default_unit),
-        ),
-    )
-}
-
-fn show_months(out: &impl Print, r: YearMonthRead) -> io::Result<()> {
-    match r {
-        YearMonthRead::Value(x) => show::signed32(out, x.0),
-        YearMonthRead::Refused(why) => refused(out, why),
-    }
+        b"day_time" => match parse_interval_day_time(text) {
+            Ok(x) => counts(out, &[i64::from(x.days.0), i64::from(x.millis.0)]),
+            Err(why) => refused(out, why),
+        },
+        _ => {
+            let config = IntervalParseConfig::new(default_unit(name)?);
+            interval(out, parse_interval_month_day_nano_config(text, config))
+        }
+    })
 }
 
 // Months, days and nanoseconds.
-fn show_interval(out: &impl Print, r: IntervalRead) -> io::Result<()> {
+fn interval(out: &impl Print, r: Result<Interval, IntervalRefusal>) -> io::Result<()> {
     match r {
-        IntervalRead::Value(x) => {
-            show::signed32(out, x.months.0)?;
-            show::bytes(out, b" ")?;
-            show::signed32(out, x.days.0)?;
-            show::bytes(out, b" ")?;
-            show::signed(out, x.nanos.0)
-        }
-        IntervalRead::Refused(why) => refused(out, why),
+        Ok(x) => counts(
+            out,
+            &[i64::from(x.months.0), i64::from(x.days.0), x.nanos.0],
+        ),
+        Err(why) => refused(out, why),
     }
 }
 
-// Days and milliseconds.
-fn show_day_time(out: &impl Print, r: DayTimeRead) -> io::Result<()> {
-    match r {
-        DayTimeRead::Value(x) => {
-            show::signed32(out, x.days.0)?;
+fn counts(out: &impl Print, counts: &[i64]) -> io::Result<()> {
+    for (i, &z) in counts.iter().enumerate() {
+        if i != 0 {
             show::bytes(out, b" ")?;
-            show::signed32(out, x.millis.0)
         }
-        DayTimeRead::Refused(why) => refused(out, why),
+        show::number(out, z)?;
     }
+    Ok(())
 }
 
 // The number, and behind it the place, where there is one.
 fn refused(out: &impl Print, why: IntervalRefusal) -> io::Result<()> {
     show::refused(out, why.refusal())?;
     match why.place() {
-        MaybePlace::Some(at) => {
-            show::bytes(out, b" at ")?;
-            show::count(out, at)
-        }
-        MaybePlace::None => Ok(()),
+        Some(at) => print!(out; " at {at}"),
+        None => Ok(()),
     }
 }

@@ -1,28 +1,41 @@
 // A line: a reader's name and the text, parted by a space.
 use crate::{answer, show};
+use lines::each::EachLine;
 use lines::escape::unescape;
-use lines::input::find;
+use lines::input::split_once;
+use room::Room;
 use std::io;
 
-pub fn one(out: &impl Print, line: &[u8]) -> io::Result<()> {
-    show::bytes(out, line)?;
-    if line.len() != 0 {
-        if line[0] != b'#' {
-            answered(out, line)?;
+#[derive(Drop)]
+pub struct Readings<'a, P: Print> {
+    pub out: &'a P,
+}
+
+impl<P: Print> EachLine for Readings<'_, P> {
+    type Error = io::Error;
+
+    fn line(&mut self, line: Option<&[u8]>) -> io::Result<()> {
+        match line {
+            Some(line) => shown(self.out, line),
+            None => show::bytes(self.out, b"a line longer than 65536 bytes is not read\n"),
         }
+    }
+}
+
+fn shown(out: &impl Print, line: &[u8]) -> io::Result<()> {
+    show::bytes(out, line)?;
+    if !matches!(line, [] | [b'#', ..]) {
+        show::bytes(out, b" = ")?;
+        answered(out, line)?;
     }
     show::bytes(out, b"\n")
 }
 
 fn answered(out: &impl Print, line: &[u8]) -> io::Result<()> {
-    show::bytes(out, b" = ")?;
-    let name_end = find(line, b' ');
-    let mut space = [0u8; 65536];
-    if name_end < line.len() {
-        let start = name_end + 1;
-        let n = unescape(&line[start..], &mut space);
-        answer::of(out, &line[..name_end], &space[..n])
-    } else {
-        answer::of(out, line, b"")
-    }
+    let Some((name, written)) = split_once(line, b' ') else {
+        return answer::of(out, line, b"");
+    };
+    let mut text = Room::<65536>::new();
+    unescape(written, &mut text);
+    answer::of(out, name, text.as_bytes())
 }

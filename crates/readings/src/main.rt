@@ -2,16 +2,17 @@
 // that begins with # are written as they are.
 #![tactic(auto)]
 
+use line::Readings;
+use lines::each::each_line;
 use std::io;
 
 mod answer;
 mod columns;
-mod input;
 mod intervals;
 mod line;
 mod show;
 mod whole;
 
 fn main(rt: HostRuntime) -> io::Result<()> {
-    input::all(&rt, &mut rt.stdin())
+    each_line(&mut rt.stdin(), &mut Readings { out: &rt })
 }

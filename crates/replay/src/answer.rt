@@ -1,72 +1,59 @@
-// Answers as they are stored: counts with commas between them, or `r` and the number of the refusal. Each function tells the length.
-ghost use Rattle.io.specs.Counts.{IsPrefixLen};
+// Answers as they are stored: counts with commas between them, or `r` and the number of the refusal.
+use count::Months;
+use interval::IntervalDayTime;
+use place::IntervalRefusal;
+use refusal::Refusal;
+use room::Room;
+use total::Interval;
 
-use interval::{DayTimeRead, YearMonthRead};
-use refusal::{Read32, Read64, Refusal};
-use room::{put, put_number, put_signed, put_signed32};
-use total::IntervalRead;
+pub type Answer = Room<64>;
 
-pub fn of64(r: Read64, out: &mut [u8]) -> usize
-    ensures { IsPrefixLen result out.new }
-{
+// A count of either width.
+pub fn of_count<Z: Into<i64>>(r: Result<Z, Refusal>) -> Answer {
     match r {
-        Read64::Value(z) => put_signed(z, 0, out),
-        Read64::Refused(why) => refused(why, out),
-    }
-}
-
-pub fn of32(r: Read32, out: &mut [u8]) -> usize
-    ensures { IsPrefixLen result out.new }
-{
-    match r {
-        Read32::Value(z) => put_signed32(z, 0, out),
-        Read32::Refused(why) => refused(why, out),
+        Ok(z) => counts(&[z.into()]),
+        Err(why) => refused(why),
     }
 }
 
 // Months.
-pub fn of_months(r: YearMonthRead, out: &mut [u8]) -> usize
-    ensures { IsPrefixLen result out.new }
-{
+pub fn of_months(r: Result<Months, IntervalRefusal>) -> Answer {
     match r {
-        YearMonthRead::Value(x) => put_signed32(x.0, 0, out),
-        YearMonthRead::Refused(why) => refused(why.refusal(), out),
+        Ok(x) => counts(&[i64::from(x.0)]),
+        Err(why) => refused(why.refusal()),
     }
 }
 
 // Months, days and nanoseconds.
-pub fn of_interval(r: IntervalRead, out: &mut [u8]) -> usize
-    ensures { IsPrefixLen result out.new }
-{
+pub fn of_interval(r: Result<Interval, IntervalRefusal>) -> Answer {
     match r {
-        IntervalRead::Value(x) => {
-            let months = put_signed32(x.months.0, 0, out);
-            let comma = put(b",", months, out);
-            let days = put_signed32(x.days.0, comma, out);
-            let comma = put(b",", days, out);
-            put_signed(x.nanos.0, comma, out)
-        }
-        IntervalRead::Refused(why) => refused(why.refusal(), out),
+        Ok(x) => counts(&[i64::from(x.months.0), i64::from(x.days.0), x.nanos.0]),
+        Err(why) => refused(why.refusal()),
     }
 }
 
 // Days and milliseconds.
-pub fn of_day_time(r: DayTimeRead, out: &mut [u8]) -> usize
-    ensures { IsPrefixLen result out.new }
-{
+pub fn of_day_time(r: Result<IntervalDayTime, IntervalRefusal>) -> Answer {
     match r {
-        DayTimeRead::Value(x) => {
-            let days = put_signed32(x.days.0, 0, out);
-            let comma = put(b",", days, out);
-            put_signed32(x.millis.0, comma, out)
-        }
-        DayTimeRead::Refused(why) => refused(why.refusal(), out),
+        Ok(x) => counts(&[i64::from(x.days.0), i64::from(x.millis.0)]),
+        Err(why) => refused(why.refusal()),
     }
 }
 
-fn refused(why: Refusal, out: &mut [u8]) -> usize
-    ensures { IsPrefixLen result out.new }
-{
-    let r = put(b"r", 0, out);
-    put_number(why.number() as u64, r, out)
+fn counts(counts: &[i64]) -> Answer {
+    let mut out = Room::new();
+    for (i, &z) in counts.iter().enumerate() {
+        if i != 0 {
+            out.put(b",");
+        }
+        out.put_signed(z);
+    }
+    out
+}
+
+fn refused(why: Refusal) -> Answer {
+    let mut out = Room::new();
+    out.put(b"r");
+    out.put_number(u64::from(why.number()));
+    out
 }

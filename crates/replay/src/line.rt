@@ -1,56 +1,33 @@
 // A line: a reader's name, the stored answer and the text, parted by spaces.
-ghost use Rattle.io.specs.Counts.{IsPrefixLen};
-
 use crate::reader;
 use lines::escape::unescape;
-use lines::input::find;
+use lines::input::split_once;
+use room::Room;
 use std::io;
 
 // Whether the library answers what is stored; else the line is written, with what was found.
 pub fn passes(out: &impl Print, line: &[u8]) -> io::Result<bool> {
-    let a = find(line, b' ');
-    if line.len() <= a {
+    let Some((name, rest)) = split_once(line, b' ') else {
         return failed(out, line, b"no answer");
-    }
-    let stored = a + 1;
-    answers(out, line, &line[..a], &line[stored..])
-}
-
-// The stored answer and the text of a line, and the reader's name.
-fn answers(out: &impl Print, line: &[u8], name: &[u8], rest: &[u8]) -> io::Result<bool> {
-    let b = find(rest, b' ');
-    if rest.len() <= b {
+    };
+    let Some((stored, written)) = split_once(rest, b' ') else {
         return failed(out, line, b"no text");
-    }
-    let text = b + 1;
-    let mut answer = [0u8; 64];
-    let n = answered(name, &rest[text..], &mut answer);
-    if agree(&rest[..b], &answer[..n]) {
+    };
+    let mut text = Room::<65536>::new();
+    unescape(written, &mut text);
+    let Some(found) = reader::of(name, text.as_bytes()) else {
+        return failed(out, line, b"");
+    };
+    if agree(stored, found.as_bytes()) {
         return Ok(true);
     }
-    failed(out, line, &answer[..n])
-}
-
-// What the library answers to a text that a line writes; nothing where there is no such reader.
-fn answered(name: &[u8], written: &[u8], out: &mut [u8]) -> usize
-    ensures { IsPrefixLen result out.new }
-{
-    let mut text = [0u8; 65536];
-    let n = unescape(written, &mut text);
-    reader::of(name, &text[..n], out)
+    failed(out, line, found.as_bytes())
 }
 
 // Whether the answers agree; where the Rust does not tell the number of a refusal, 2 and 6 are possible.
 fn agree(stored: &[u8], found: &[u8]) -> bool {
-    if found.len() == 0 {
-        return false;
-    }
     match stored {
-        b"r?" => match found {
-            b"r2" => true,
-            b"r6" => true,
-            _ => false,
-        },
+        b"r?" => matches!(found, b"r2" | b"r6"),
         _ => stored == found,
     }
 }

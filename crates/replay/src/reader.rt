@@ -1,60 +1,43 @@
-// The reader of a name: what it answers to a text, as it is stored. Each function tells the answer's length, 0 where the name is no reader's.
-ghost use Rattle.io.specs.Counts.{IsPrefixLen};
-
-use crate::answer::{of_day_time, of_interval, of_months, of32, of64};
+// The reader of a name.
+use crate::answer::{Answer, of_count, of_day_time, of_interval, of_months};
 use date_column::{Date32Type, Date64Type};
+use interval::{
+    parse_interval_day_time, parse_interval_month_day_nano, parse_interval_month_day_nano_config,
+    parse_interval_year_month,
+};
 use lines::names::default_unit;
 use stamp_column::{
     TimestampMicrosecondType, TimestampMillisecondType, TimestampNanosecondType,
     TimestampSecondType,
 };
+use time::string_to_time_nanoseconds;
 use time_column::{
     Time32MillisecondType, Time32SecondType, Time64MicrosecondType, Time64NanosecondType,
 };
+use timestamp::stamp::string_to_timestamp_nanos;
 use total::IntervalParseConfig;
-use unit::UnitRead;
 
-pub fn of(name: &[u8], text: &[u8], out: &mut [u8]) -> usize
-    ensures { IsPrefixLen result out.new }
-{
-    match name {
-        b"stamp" => of64(timestamp::stamp::string_to_timestamp_nanos(text), out),
-        b"ts_ns" => of64(TimestampNanosecondType::parse(text), out),
-        b"ts_us" => of64(TimestampMicrosecondType::parse(text), out),
-        b"ts_ms" => of64(TimestampMillisecondType::parse(text), out),
-        b"ts_s" => of64(TimestampSecondType::parse(text), out),
-        _ => time(name, text, out),
-    }
-}
-
-fn time(name: &[u8], text: &[u8], out: &mut [u8]) -> usize
-    ensures { IsPrefixLen result out.new }
-{
-    match name {
-        b"time" => of64(time::string_to_time_nanoseconds(text), out),
-        b"t64_ns" => of64(Time64NanosecondType::parse(text), out),
-        b"t64_us" => of64(Time64MicrosecondType::parse(text), out),
-        b"t32_ms" => of32(Time32MillisecondType::parse(text), out),
-        b"t32_s" => of32(Time32SecondType::parse(text), out),
-        _ => date_or_interval(name, text, out),
-    }
-}
-
-fn date_or_interval(name: &[u8], text: &[u8], out: &mut [u8]) -> usize
-    ensures { IsPrefixLen result out.new }
-{
-    match name {
-        b"date32" => of32(Date32Type::parse(text), out),
-        b"date64" => of64(Date64Type::parse(text), out),
-        b"interval" => of_interval(interval::parse_interval_month_day_nano(text), out),
-        b"year_month" => of_months(interval::parse_interval_year_month(text), out),
-        b"day_time" => of_day_time(interval::parse_interval_day_time(text), out),
-        _ => match default_unit(name) {
-            UnitRead::Unit(u) => of_interval(
-                interval::parse_interval_month_day_nano_config(text, IntervalParseConfig::new(u)),
-                out,
-            ),
-            UnitRead::None => 0,
-        },
-    }
+// What it answers to a text, as it is stored; nothing where the name is no reader's.
+pub fn of(name: &[u8], text: &[u8]) -> Option<Answer> {
+    Some(match name {
+        b"stamp" => of_count(string_to_timestamp_nanos(text)),
+        b"ts_ns" => of_count(TimestampNanosecondType::parse(text)),
+        b"ts_us" => of_count(TimestampMicrosecondType::parse(text)),
+        b"ts_ms" => of_count(TimestampMillisecondType::parse(text)),
+        b"ts_s" => of_count(TimestampSecondType::parse(text)),
+        b"time" => of_count(string_to_time_nanoseconds(text)),
+        b"t64_ns" => of_count(Time64NanosecondType::parse(text)),
+        b"t64_us" => of_count(Time64MicrosecondType::parse(text)),
+        b"t32_ms" => of_count(Time32MillisecondType::parse(text)),
+        b"t32_s" => of_count(Time32SecondType::parse(text)),
+        b"date32" => of_count(Date32Type::parse(text)),
+        b"date64" => of_count(Date64Type::parse(text)),
+        b"interval" => of_interval(parse_interval_month_day_nano(text)),
+        b"year_month" => of_months(parse_interval_year_month(text)),
+        b"day_time" => of_day_time(parse_interval_day_time(text)),
+        _ => {
+            let config = IntervalParseConfig::new(default_unit(name)?);
+            of_interval(parse_interval_month_day_nano_config(text, config))
+        }
+    })
 }

@@ -1,19 +1,15 @@
 -- The fewest digits that hold a number are the digits that its tenth has, and its last. Assumes nothing.
 use mathlib.Core.Path.{◌≡◌, refl, ◌∙◌, ap}
-use mathlib.Core.Bool.{true, false, false≢true}
+use mathlib.Core.Bool.{cond}
 use mathlib.Core.List.{List, [], ◌∷◌, ◌++◌}
 use Prim.Native.Nat.{ℕ, zero, suc, ◌+◌, ◌*◌, ◌-◌, ◌/◌, ◌%◌, ◌^◌, ◌≤◌, ◌<◌}
 use native.Mathlib.Nat.{pow-succ', pow-zero, pow-le-pow_right, mod-eq_of_lt}
 use native.Mathlib.Omega.{arith}
 use lib.Dec.{leb}
 use lib.IntN.{ℤ, pos, negsuc, nat_abs}
-use lib.Signed.{le_z}
-use mir.Syntax.{Width}
-use mir.Val.{SFits}
-use mir.Facts.{to_z-of_z}
+use lib.Signed.{lt_z}
 use borrow.Author.Tests.{lt-ltb, le-ltb, leb-true, leb-false}
 use Rattle.text.proofs.Bools.{by_test}
-use Rattle.number.proofs.Ranges.{rd}
 use Rattle.io.specs.Digits.{hex_digit_ascii, last_digits, IsDigitCount}
 use Rattle.room.specs.Decimal.{decimal_in, decimal, signed_text}
 
@@ -48,21 +44,8 @@ pub as_decimal : (k n : ℕ) → n < 2 ^ 64 → IsDigitCount 10 1 n k → last_d
 unfolding decimal
 as_decimal k n h w = shown 20 k n (at_most_twenty k n h w) w
 
--- ---- a signed number, of a width
-
-unsigned : (z : ℤ) → le_z (pos 0) z ≡ true → decimal (nat_abs z) ≡ signed_text z
+-- the sign and the size
+pub signed : (z : ℤ) → signed_text z ≡ cond (lt_z z (pos 0)) (0x2D ∷ decimal (nat_abs z)) (decimal (nat_abs z))
 unfolding signed_text
-unsigned (pos n) e = refl
-unsigned (negsuc n) e = absurd (false≢true e)
-
-negative : (z : ℤ) → le_z (pos 0) z ≡ false → 0x2D ∷ decimal (nat_abs z) ≡ signed_text z
-unfolding signed_text
-negative (pos n) e = absurd (omega (arith, leb-false 0 n e))
-negative (negsuc n) e = refl
-
-module _ {w : Width} {z : ℤ} (fits : SFits w z) (size : ℕ) (s : size ≡ nat_abs (rd w z)) where
-  pub with_no_sign : le_z (pos 0) (rd w z) ≡ true → decimal size ≡ signed_text z
-  with_no_sign = rw (s, to_z-of_z fits) (unsigned z)
-
-  pub with_minus : le_z (pos 0) (rd w z) ≡ false → 0x2D ∷ decimal size ≡ signed_text z
-  with_minus = rw (s, to_z-of_z fits) (negative z)
+signed (pos n) = rw (le-ltb n 0 (omega arith))
+signed (negsuc n) = refl

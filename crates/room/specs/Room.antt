@@ -1,6 +1,6 @@
 -- Bytes that are put behind others, into a room of a fixed length. Assumes nothing.
-use Rattle.std.specs.Prelude.{List, ◌++◌, ℕ, length, take}
+use Rattle.std.specs.Prelude.{List, ◌++◌, ℕ, take}
 
--- the first n bytes of a room and more behind them, as far as the room goes
+-- what a room of a length holds and more bytes behind them, as far as the room goes
 abbrev pub appended : ℕ → List ℕ → List ℕ → List ℕ
-appended n s room = take (length room) (take n room ++ s)
+appended room held s = take room (held ++ s)

@@ -1,58 +1,87 @@
-// Lines that are written: bytes and numbers put behind others, into a room that the caller lends.
+// Lines that are written: bytes and numbers put behind others, into a room of a fixed length.
 // Writing itself stays in the programs: no contract can say what is written.
 #![tactic(auto)]
 
-ghost use Rattle.std.specs.Prelude.{◌≡◌, min, length, take};
-ghost use Rattle.io.specs.Counts.{IsPrefixLen};
+ghost use Rattle.std.specs.Prelude.{◌≡◌, ◌==◌, [], ◌≤◌, List, ℕ, length, take};
 ghost use Rattle.room.specs.Decimal.{decimal, signed_text};
 ghost use Rattle.room.specs.Room.{appended};
 
-// Puts bytes behind the first n, as far as there is room, and tells how many there are then.
-pub fn put(s: &[u8], n: usize, out: &mut [u8]) -> usize
-    ensures { IsPrefixLen result out.new × (take result out.new ≡ appended n s.now out.old) }
-{
-    let mut i = 0;
-    let mut k = least(n, out.len());
-    while i < s.len() {
-        if out.len() <= k {
-            return k;
+use std::marker::Model;
+
+// At most N bytes, in the order in which they were put. An ArrayVec refuses what does not fit whole; here as much of it is put as fits.
+#[derive(Drop)]
+pub struct Room<const N: usize> {
+    bytes: [u8; N],
+    len: usize,
+}
+
+impl<const N: usize> Model for Room<N> {
+    ghost Value = { List ℕ };
+
+    ghost view = { λ r. take r.len r.bytes };
+
+    ghost invariant = { λ r. (r.len ≤ N) × (length r.bytes ≡ N) };
+}
+
+impl<const N: usize> Room<N> {
+    pub fn new() -> Self
+        ensures { result ≡ [] }
+    {
+        Room {
+            bytes: [0; N],
+            len: 0,
         }
-        out[k] = s[i];
-        k += 1;
-        i += 1;
     }
-    k
-}
 
-// A number's digits.
-pub fn put_number(number: u64, n: usize, out: &mut [u8]) -> usize
-    ensures { IsPrefixLen result out.new × (take result out.new ≡ appended n (decimal number) out.old) }
-{
-    let mut digits = [0u8; 20];
-    let k = io::decimal(number, &mut digits);
-    put(&digits[..k], n, out)
-}
-
-// A signed number's sign and digits.
-pub fn put_signed(z: i64, n: usize, out: &mut [u8]) -> usize
-    ensures { IsPrefixLen result out.new × (take result out.new ≡ appended n (signed_text z) out.old) }
-{
-    let size = number::sign::magnitude(z);
-    if 0 <= z {
-        return put_number(size, n, out);
+    pub fn as_bytes(&self) -> &[u8]
+        ensures bytes { result.now ≡ self.now }
+        ensures fit { length result.now ≤ N }
+    {
+        &self.bytes[..self.len]
     }
-    let minus = put(b"-", n, out);
-    put_number(size, minus, out)
-}
 
-pub fn put_signed32(z: i32, n: usize, out: &mut [u8]) -> usize
-    ensures { IsPrefixLen result out.new × (take result out.new ≡ appended n (signed_text z) out.old) }
-{
-    put_signed(z as i64, n, out)
-}
+    pub fn is_empty(&self) -> bool
+        ensures { result ≡ (length self.now == 0) }
+    {
+        self.len == 0
+    }
 
-fn least(a: usize, b: usize) -> usize
-    ensures { result ≡ min a b }
-{
-    if a < b { a } else { b }
+    pub fn clear(&mut self)
+        ensures { self.new ≡ [] }
+    {
+        self.len = 0;
+    }
+
+    // Puts bytes behind those that are held, as many as there is room for.
+    #[tactic(auto, using(crate::proofs::Filling::filling))]
+    pub fn put(&mut self, s: &[u8])
+        ensures { self.new ≡ appended N self.old s.now }
+    {
+        let fits = s.len().min(N - self.len);
+        let end = self.len + fits;
+        let bytes = &mut self.bytes[..];
+        bytes[self.len..end].copy_from_slice(&s[..fits]);
+        self.len = end;
+    }
+
+    // A number's digits.
+    #[tactic(auto, using(crate::proofs::Numerals::as_decimal))]
+    pub fn put_number(&mut self, number: u64)
+        ensures { self.new ≡ appended N self.old (decimal number) }
+    {
+        let mut digits = [0u8; 20];
+        let k = io::decimal(number, &mut digits);
+        self.put(&digits[..k]);
+    }
+
+    // A signed number's sign and digits.
+    #[tactic(auto, using(crate::proofs::Filling::twice, crate::proofs::Numerals::signed))]
+    pub fn put_signed(&mut self, z: i64)
+        ensures { self.new ≡ appended N self.old (signed_text z) }
+    {
+        if z < 0 {
+            self.put(b"-");
+        }
+        self.put_number(z.unsigned_abs());
+    }
 }

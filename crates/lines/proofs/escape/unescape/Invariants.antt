@@ -1,13 +1,10 @@
--- `lines::escape::unescape` meets its contract. The loop's invariant: what is put and what is left to put make the whole. Assumes nothing.
-use mathlib.Core.Path.{◌≡◌}
-use mathlib.Core.List.{◌++◌}
-use Prim.Native.Nat.{◌-◌, ◌≤◌}
-use lib.ListN.{length, take, drop}
+-- `lines::escape::unescape` meets its contract. The loop's invariant: what is held and what is left to put make the whole. Assumes nothing.
+use Rattle.std.proofs.Common.{◌≡◌, ◌++◌, ◌≤◌, length, take}
 use Rattle.lines.specs.Escape.{unescaped}
 use Rattle.lines.proofs.escape.unescape.Given as goal
 
-abbrev pub invariant-loop-i : goal.invariant-loop-i
-invariant-loop-i l = (l.n ≤ length l.out) × (length l.out ≡ length l.initial.out) × (take l.n l.out ++ unescaped (drop l.i l.s) ≡ unescaped l.s)
+abbrev pub invariant-loop-byte : goal.invariant-loop-byte
+invariant-loop-byte g l = (length l.out ≤ g.row.N) × (take g.row.N (l.out ++ unescaped l.rest) ≡ take g.row.N (unescaped l.s))
 
-abbrev pub decreases-loop-i : goal.decreases-loop-i
-decreases-loop-i l = length l.s - l.i
+abbrev pub decreases-loop-byte : goal.decreases-loop-byte
+decreases-loop-byte g l = length l.rest
