@@ -39,8 +39,8 @@ pub fn add_component(
     total.add(amount, unit).ok_or(at)
 }
 
-#[tactic(auto, unfolding(crate::specs::Helpers::came, rule::specs::Answer::on_totals, place::specs::Where::or_later))]
 // The answer where the text is read to its end: a repeated unit comes before a count that does not fit.
+#[tactic(auto, unfolding(crate::specs::Helpers::came, rule::specs::Answer::on_totals, place::specs::Where::or_later))]
 pub fn settled(
     repeated: Option<usize>,
     total: Result<Interval, usize>,

@@ -31,8 +31,8 @@ pub fn is_white3(b: u8, c: u8, d: u8) -> bool
     )
 }
 
-#[tactic(auto, unfolding(crate::specs::WhiteSpace::white_of))]
 // The length of the white space character that three bytes begin with, 0 for none.
+#[tactic(auto, unfolding(crate::specs::WhiteSpace::white_of))]
 pub fn white_of(b: u8, c: u8, d: u8) -> usize
     ensures { result ≡ white_of b c d }
 {
