@@ -8,7 +8,7 @@ use std::io::Read;
 const LONGEST: usize = 65536;
 
 // A line of which one byte more is held is too long, however much comes behind.
-const HELD: usize = 65537;
+const HELD: usize = LONGEST + 1;
 
 // What is done with the lines of an input.
 pub trait EachLine {
