@@ -35,8 +35,10 @@ impl Date32Type {
     pub fn parse_with(starts: &YearStarts, s: &[u8]) -> Result<i32, Refusal>
         ensures { outcome result ≡ date32 s.now }
     {
-        parse_date_to_days(starts, s)
-            .or_else(|_| parse_date_to_days(starts, trim_pre_and_post_whitespace(s)))
+        parse_date_to_days(starts, s).or_else(|_| parse_date_to_days(
+            starts,
+            trim_pre_and_post_whitespace(s),
+        ))
     }
 }
 
