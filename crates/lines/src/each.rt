@@ -31,6 +31,7 @@ pub trait EachLine {
 
 pub fn each_line<E: EachLine>(input: &mut impl Read, each: &mut E) -> Result<(), E::Error> {
     let mut line = Room::<HELD>::new();
+    // What `read` fills.
     let mut piece = [0u8; 65536];
     // A proved loop has to end, and nothing says that the input does: no run uses up so many turns.
     for _ in 0..u64::MAX {
