@@ -1,4 +1,6 @@
 // An input line by line, however long it is.
+ghost use Rattle.std.specs.Prelude.{◌≡◌, ◌<◌, ◌≤◌, length, MatchOption};
+
 use crate::input::take_line;
 use room::Room;
 use std::io;
@@ -60,7 +62,10 @@ fn each_in<E: EachLine>(input: &[u8], line: &mut Room<HELD>, each: &mut E) -> Re
     Ok(())
 }
 
-fn whole(line: &Room<HELD>) -> Option<&[u8]> {
+// A line that is not too long.
+fn whole(line: &Room<HELD>) -> Option<&[u8]>
+    ensures { MatchOption result (65536 < length line.now) (λ x. (length line.now ≤ 65536) × (x.now ≡ line.now)) }
+{
     let line = line.as_bytes();
     if LONGEST < line.len() {
         None
