@@ -49,7 +49,7 @@ pub fn put_months(r: Result<Months, IntervalRefusal>, months: &mut i32, place: &
             *months = all.0;
             0
         }
-        Err(why) => put_place(why, place),
+        Err(refusal) => put_place(refusal, place),
     }
 }
 
@@ -87,7 +87,7 @@ pub fn put_interval(
             *nanos = interval.nanos.0;
             0
         }
-        Err(why) => put_place(why, place),
+        Err(reason) => put_place(reason, place),
     }
 }
 
