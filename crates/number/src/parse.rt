@@ -1,8 +1,8 @@
 // Rust's `str::parse` of integers, on bytes.
-ghost use Rattle.std.specs.Prelude.{◌≡◌, ◌-◌, ◌≤◌, Bool, true, false, cond, ℕ, ℤ, pos, Some, option_map};
+ghost use Rattle.std.specs.Prelude.{◌≡◌, ◌-◌, ◌≤◌, Bool, true, false, cond, ℕ, ℤ, pos, Some, option_map, nat_abs};
 ghost use Rattle.number.specs.Widths.{in_signed, in_type, keep};
 ghost use Rattle.number.specs.Decimal.{unsigned, numeral, integer};
-ghost use Rattle.std.proofs.Common.{rules};
+ghost use Rattle.std.proofs.Common.{ap};
 ghost use lib.Dec.{lit≤};
 
 use crate::{checked, sign};
@@ -76,7 +76,7 @@ impl Integer for u32 {
 
     ghost room = { lit≤ tt };
 
-    ghost one = { λ x y e. Prim.search (rules, e) };
+    ghost one = { λ x y e. ap nat_abs e };
 
     fn narrow(x: i64) -> Option<u32> {
         u32::try_from(x).ok()
