@@ -40,6 +40,7 @@ pub fn put_place(why: IntervalRefusal, place: &mut usize) -> u8
     why.number()
 }
 
+// Each of the next three writes other cells, as the C interface has them, so that they are not one function.
 pub fn put_months(r: Result<Months, IntervalRefusal>, months: &mut i32, place: &mut usize) -> u8
     ensures { Told (year_month_outcome r) result months.old months.new × ToldPlace (year_month_place r) place.old place.new }
 {

@@ -1,5 +1,5 @@
 // The C interface: each function returns 0 and writes its cells, or returns a refusal's number and writes nothing but, where there is one, the
-// cell that tells where (`index` of a column, `place` of an interval).
+// cell that tells where (`index` of a column, `place` of an interval). `cullpethi_c` exports each under its name: C has no generic calls.
 #![tactic(auto)]
 
 ghost use Rattle.column.specs.Columns.{column};

@@ -91,6 +91,7 @@ fn with_reader(
 
 // The argument is there, so all that can be wrong is its length.
 fn one_text(env: &impl Env, to: Streams, at: usize, asked: Asked) -> Result<Status, Failure> {
+    // What `arg` fills.
     let mut space = [0u8; 65536];
     match env.arg(at, &mut space) {
         Ok(n) => answered(to, Some(&space[..n]), asked),

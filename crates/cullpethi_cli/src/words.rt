@@ -50,6 +50,7 @@ pub fn all(env: &impl Env, to: Streams) -> Result<Words, Failure> {
         source: None,
         expected: Expected::Any,
     };
+    // What `arg` fills.
     let mut space = [0u8; 4096];
     for at in 1..usize::MAX {
         match env.arg(at, &mut space) {

@@ -18,6 +18,8 @@ use refusal::Refusal;
 use text::trim::trim_pre_and_post_whitespace;
 use timestamp::stamp::string_to_datetime;
 
+// Two types of their own: one is tried again once trimmed and holds 32 bits, the other never trims and reads one of two readers, so that
+// a generic type would only forward to a trait's two methods.
 #[derive(Clone, Copy)]
 pub struct Date32Type {}
 

@@ -15,7 +15,7 @@ use total::Interval;
 pub fn all_days(months: Months, days: Days) -> Option<Days>
     ensures { maybe_days result ≡ in_days months.0 days.0 }
 {
-    Days(checked::mul_checked_i32(months.0, 30)?).plus(days)
+    Days(months.0.checked_mul(30)?).plus(days)
 }
 
 // Nanoseconds over 1,000,000, where that divides them and what comes of it fits.

@@ -1,4 +1,6 @@
 // An input line by line, however long it is.
+ghost use Rattle.std.specs.Prelude.{◌≡◌, ◌<◌, ◌≤◌, length, MatchOption};
+
 use crate::input::take_line;
 use room::Room;
 use std::io;
@@ -31,6 +33,7 @@ pub trait EachLine {
 
 pub fn each_line<E: EachLine>(input: &mut impl Read, each: &mut E) -> Result<(), E::Error> {
     let mut line = Room::<HELD>::new();
+    // What `read` fills.
     let mut piece = [0u8; 65536];
     // A proved loop has to end, and nothing says that the input does: no run uses up so many turns.
     for _ in 0..u64::MAX {
@@ -59,7 +62,10 @@ fn each_in<E: EachLine>(input: &[u8], line: &mut Room<HELD>, each: &mut E) -> Re
     Ok(())
 }
 
-fn whole(line: &Room<HELD>) -> Option<&[u8]> {
+// A line that is not too long.
+fn whole(line: &Room<HELD>) -> Option<&[u8]>
+    ensures { MatchOption result (65536 < length line.now) (λ x. (length line.now ≤ 65536) × (x.now ≡ line.now)) }
+{
     let line = line.as_bytes();
     if LONGEST < line.len() {
         None

@@ -1,4 +1,4 @@
-// Lines as the programs read them. Reading itself stays in the programs: no contract can say what is read.
+// Lines as the programs read them. What is read no contract can say; how much of it is one line is said of `take_line` and of a line too long.
 #![tactic(auto)]
 
 pub mod each;

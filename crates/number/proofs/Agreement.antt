@@ -1,11 +1,11 @@
 -- The definitions agree: what the grammar `Numeral` says of a text is what `numeral` computes, `in_signed` is the usual range of a
 -- signed width, and a number read at more bits and then narrowed is read at fewer. Assumes nothing.
 use mathlib.Core.Path.{◌≡◌, refl}
-use mathlib.Core.Bool.{Bool, true, false, ◌&&◌, false≢true}
+use mathlib.Core.Bool.{Bool, true, false, ◌&&◌, cond, false≢true}
 use mathlib.Core.List.{List, [], ◌∷◌}
 use mathlib.Core.Logic.{◌↔◌}
 use Rattle.std.specs.Prelude.{Option, None, Some}
-use Prim.Native.Nat.{ℕ, ◌-◌, ◌^◌, ◌<◌}
+use Prim.Native.Nat.{ℕ, ◌-◌, ◌^◌, ◌≤◌, ◌<◌}
 use native.Mathlib.Omega.{arith}
 use native.Mathlib.Nat.{lt_of_lt_of_le}
 use lib.Dec.{eqb}
@@ -90,11 +90,11 @@ twice : (f g : ℤ → Bool) → ((z : ℤ) → g z ≡ true → f z ≡ true) �
 twice f g h None = refl
 twice f g h (Some z) = by_test (f z) (λ e. rw e) (λ e. by_test (g z) (λ p. both_ways (f z) e (h z p)) (λ p. rw (e, p)))
 
-below : (sign : Bool) (j k : ℕ) → j < k → (z : ℤ) → in_type sign j z ≡ true → in_type true k z ≡ true
-below true j k h z e = lt-ltb (mag z) (2 ^ (k - 1)) (lt_of_lt_of_le (ltb-true (mag z) (2 ^ (j - 1)) e) (pow_mono (omega arith)))
-below false j k h (pos n) e = lt-ltb n (2 ^ (k - 1)) (lt_of_lt_of_le (ltb-true n (2 ^ j) e) (pow_mono (omega arith)))
+below : (sign : Bool) (j k : ℕ) → cond sign (j - 1) j ≤ k → (z : ℤ) → in_type sign j z ≡ true → in_signed k z ≡ true
+below true j k h z e = lt-ltb (mag z) (2 ^ k) (lt_of_lt_of_le (ltb-true (mag z) (2 ^ (j - 1)) e) (pow_mono h))
+below false j k h (pos n) e = lt-ltb n (2 ^ k) (lt_of_lt_of_le (ltb-true n (2 ^ j) e) (pow_mono h))
 below false j k h (negsuc n) e = absurd (false≢true e)
 
 -- a number read as one of k signed bits and kept where it is one of a type of fewer bits is read as one of that type
-pub fewer_bits : (sign : Bool) (j k : ℕ) → j < k → (t : List ℕ) → keep (in_type sign j) (integer true k t) ≡ keep (in_type sign j) (numeral true t)
-fewer_bits sign j k h t = twice (in_type true k) (in_type sign j) (below sign j k h) (numeral true t)
+pub fewer_bits : (sign : Bool) (j k : ℕ) → cond sign (j - 1) j ≤ k - 1 → (t : List ℕ) → keep (in_type sign j) (integer true k t) ≡ keep (in_type sign j) (numeral true t)
+fewer_bits sign j k h t = twice (in_type true k) (in_type sign j) (below sign j (k - 1) h) (numeral true t)

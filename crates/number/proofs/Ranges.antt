@@ -1,17 +1,15 @@
 -- The range of a signed width: its ends, what a signed local reads back, and the answer for a number in the range, above it and
 -- below it. Assumes nothing.
 use mathlib.Core.Path.{◌≡◌}
-use Rattle.std.specs.Prelude.{None, Some}
-use Prim.Native.Nat.{◌+◌, ◌-◌, ◌^◌, ◌≤◌, ◌<◌}
-use native.Mathlib.Omega.{arith}
-use lib.IntN.{ℤ, pos, negsuc}
+use Rattle.std.specs.Prelude.{Some}
+use Prim.Native.Nat.{◌-◌, ◌^◌}
+use lib.IntN.{ℤ, pos}
 use lib.Signed.{mag}
 use mir.Syntax.{Width}
 use mir.Val.{SFits, hbits, to_z, of_z}
 use mir.Facts.{to_z-of_z}
-use borrow.Author.Tests.{lt-ltb, le-ltb}
+use borrow.Author.Tests.{lt-ltb}
 use Rattle.number.specs.Widths.{fit}
-use Rattle.number.proofs.Zed.{P, N}
 
 -- what a signed local reads back
 abbrev pub rd : Width → ℤ → ℤ

@@ -1,5 +1,5 @@
 -- Numbers of a width, signed or not, and what the answers of `number` say of them. Assumes nothing.
-use Rattle.std.specs.Prelude.{Bool, true, false, cond, ℕ, ◌-◌, ◌/◌, ◌^◌, ltb, ℤ, pos, negsuc, neg_ℤ, Option, None, Some, option_map}
+use Rattle.std.specs.Prelude.{Bool, true, false, cond, ℕ, ◌-◌, ◌/◌, ◌^◌, ltb, ℤ, pos, negsuc, neg_ℤ, Option, None, Some}
 use Rattle.std.specs.Int.Signed.{mag}
 
 -- z is a number of k + 1 signed bits, from -2^k to 2^k - 1: `mag z` is n both for n and for -(n + 1)
@@ -25,10 +25,6 @@ keep test (Some z) = cond (test z) (Some z) None
 abbrev pub fit : ℕ → ℤ → Option ℤ
 fit k z = keep (in_signed k) (Some z)
 
--- z, where it is a number of k unsigned bits
-abbrev pub fit_unsigned : ℕ → ℤ → Option ℤ
-fit_unsigned k z = keep (in_unsigned k) (Some z)
-
 -- the number with a sign, true for minus, and a size
 abbrev pub signed : Bool → ℕ → ℤ
 signed true m = neg_ℤ (pos m)
@@ -38,7 +34,3 @@ signed false m = pos m
 abbrev pub floor : ℤ → ℕ → ℤ
 floor (pos a) m = pos (a / m)
 floor (negsuc a) m = negsuc (a / m)
-
--- a number with no sign, as one of ℤ
-abbrev pub nat32 : Option ℕ → Option ℤ
-nat32 = option_map pos

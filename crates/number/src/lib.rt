@@ -1,4 +1,4 @@
-// Numbers of a width: Rust's `str::parse` on bytes, checked sums and products, sign and size.
+// Numbers of a width: Rust's `str::parse` on bytes, sign and size.
 #![tactic(auto)]
 
 pub mod checked;

@@ -4,7 +4,7 @@ ghost use Rattle.parse_column.specs.Numbers.{column_numbered};
 
 use column::Column;
 
-// The column that a number names, or none.
+// The column that a number names, or none. No `TryFrom`, as with `unit_numbered`: its error would say no more than None.
 pub fn column_numbered(number: u8) -> Option<Column>
     ensures { result ≡ column_numbered number }
 {

@@ -2,7 +2,7 @@
 use crate::{columns, intervals, show, whole};
 use calendar::YearStarts;
 use lines::input::split_once;
-use number::parse::{parse_i32, parse_i64, parse_u32};
+use number::parse::parse;
 use std::io;
 
 pub fn of(out: &impl Print, name: &[u8], text: &[u8]) -> io::Result<()> {
@@ -24,9 +24,9 @@ fn ground(out: &impl Print, name: &[u8], text: &[u8]) -> io::Result<()> {
         b"utf8" => show::yes_or_no(out, utf8::is_utf8(text)),
         b"white" => show::count(out, white::white_at(text, 0)),
         b"trim" => show::text(out, text::trim::trim_pre_and_post_whitespace(text)),
-        b"i32" => show::maybe(out, parse_i32(text)),
-        b"i64" => show::maybe(out, parse_i64(text)),
-        b"u32" => show::maybe(out, parse_u32(text)),
+        b"i32" => show::maybe(out, parse::<i32>(text)),
+        b"i64" => show::maybe(out, parse::<i64>(text)),
+        b"u32" => show::maybe(out, parse::<u32>(text)),
         b"day" => day(out, text),
         _ => show::bytes(out, b"no such reader"),
     }
@@ -37,16 +37,16 @@ fn day(out: &impl Print, text: &[u8]) -> io::Result<()> {
     let Some((year, month_day)) = split_once(text, b' ') else {
         return show::bytes(out, b"no month");
     };
-    let Some(year) = parse_i32(year) else {
+    let Some(year) = parse::<i32>(year) else {
         return show::bytes(out, b"no year");
     };
     let Some((month, day)) = split_once(month_day, b' ') else {
         return show::bytes(out, b"no day");
     };
-    let Some(month) = parse_u32(month) else {
+    let Some(month) = parse::<u32>(month) else {
         return show::bytes(out, b"no month");
     };
-    let Some(day) = parse_u32(day) else {
+    let Some(day) = parse::<u32>(day) else {
         return show::bytes(out, b"no day");
     };
     let starts = YearStarts::new();

@@ -4,7 +4,7 @@ use crate::show;
 use arrayvec::ArrayVec;
 use cullpethi::cullpethi_parse_column;
 use lines::input::split_once;
-use number::parse::parse_u32;
+use number::parse::parse;
 use std::io;
 
 pub fn of(out: &impl Print, text: &[u8]) -> io::Result<()> {
@@ -34,7 +34,7 @@ fn numbers_in(s: &[u8]) -> ArrayVec<u32, 16> {
             Some(parts) => parts,
             None => (rest, &rest[rest.len()..]),
         };
-        numbers.push(parse_u32(number).unwrap_or(0));
+        numbers.push(parse::<u32>(number).unwrap_or(0));
         rest = behind;
     }
     numbers

@@ -69,6 +69,7 @@ impl<const N: usize> Room<N> {
     pub fn put_number(&mut self, number: u64)
         ensures { self.new ≡ appended N self.old (decimal number) }
     {
+        // What the library's `decimal` fills.
         let mut digits = [0u8; 20];
         let k = io::decimal(number, &mut digits);
         self.put(&digits[..k]);

@@ -6,15 +6,14 @@ ghost use Rattle.std.specs.Int.Signed.{mag, quot_z};
 ghost use Rattle.std.specs.Prelude.{pos};
 ghost use Rattle.refusal.specs.Outcome.{outcome};
 
+use number::parse::{Integer, parse};
 use refusal::Refusal;
 use std::marker::PhantomData;
 use text::trim::trim_pre_and_post_whitespace;
 use time::string_to_time_nanoseconds;
 use units::{Microsecond, Millisecond, Nanosecond, Second, TimeColumn};
-use width::Width;
 
 pub mod units;
-pub mod width;
 
 // A time column, by its unit.
 #[derive(Clone, Copy)]
@@ -38,7 +37,7 @@ impl<C: TimeColumn> TimeType<C> {
         if let Ok(nanos) = string_to_time_nanoseconds(s) {
             return Ok(in_unit::<C>(nanos));
         }
-        if let Some(z) = C::Native::parse(s) {
+        if let Some(z) = parse::<C::Native>(s) {
             return Ok(z);
         }
         let nanos = string_to_time_nanoseconds(trim_pre_and_post_whitespace(s))?;
@@ -51,5 +50,5 @@ fn in_unit<C: TimeColumn>(nanos: i64) -> C::Native
     requires { mag nanos ≤ 86401000000000 }
     ensures { C.Native.int result ≡ quot_z nanos (pos C.NANOS) }
 {
-    C::Native::of(nanos / C::NANOS as i64)
+    C::Native::narrow(nanos / C::NANOS as i64).unwrap()
 }

@@ -1,14 +1,14 @@
 // The units of the four time columns: what each holds, and how many nanoseconds its unit has.
-ghost use Rattle.std.specs.Prelude.{◌≡◌, ◌≤◌, ◌<◌, ◌*◌, ◌-◌, ◌^◌, ℕ, ℤ, List};
+ghost use Rattle.std.specs.Prelude.{◌≡◌, refl, true, ◌≤◌, ◌<◌, ◌*◌, ◌-◌, ◌^◌, ℕ, ℤ, List};
 ghost use lib.Dec.{lit<, lit≤};
 ghost use Rattle.refusal.specs.Outcome.{Outcome, accepted, and_then};
 ghost use Rattle.time_column.specs.Answer.{time_column};
 ghost use Rattle.time_column.specs.Widths.{in_integers};
 
-use crate::width::Width;
+use number::parse::Integer;
 
 pub trait TimeColumn {
-    type Native: Width;
+    type Native: Integer;
 
     // What the column reads.
     ghost reads: { List ℕ → Outcome Self.Native };
@@ -18,6 +18,8 @@ pub trait TimeColumn {
     const NANOS: u32;
 
     ghost some: { 1 ≤ NANOS };
+
+    ghost signed: { Self.Native.SIGNED ≡ true };
 
     // A day and a second fit.
     ghost room: { 86401000000000 < 2 ^ (Self.Native.bits - 1) * NANOS };
@@ -39,6 +41,8 @@ impl TimeColumn for Nanosecond {
 
     ghost some = { lit≤ tt };
 
+    ghost signed = { refl };
+
     ghost room = { lit< tt };
 
     ghost reads_is = { λ t. in_integers (time_column 1 64 t) };
@@ -57,6 +61,8 @@ impl TimeColumn for Microsecond {
     const NANOS: u32 = 1_000;
 
     ghost some = { lit≤ tt };
+
+    ghost signed = { refl };
 
     ghost room = { lit< tt };
 
@@ -77,6 +83,8 @@ impl TimeColumn for Millisecond {
 
     ghost some = { lit≤ tt };
 
+    ghost signed = { refl };
+
     ghost room = { lit< tt };
 
     ghost reads_is = { λ t. in_integers (time_column 1000000 32 t) };
@@ -95,6 +103,8 @@ impl TimeColumn for Second {
     const NANOS: u32 = 1_000_000_000;
 
     ghost some = { lit≤ tt };
+
+    ghost signed = { refl };
 
     ghost room = { lit< tt };
 

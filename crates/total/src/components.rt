@@ -62,6 +62,7 @@ pub fn parse_interval_components(
     ensures { (interval_outcome result ≡ month_day_nano precision default_unit value.now) × (place_read result ≡ place precision default_unit value.now) }
 {
     let mut at: usize = 0;
+    // A mark for each unit, by its number: nothing is allocated.
     let mut seen = [false; 12];
     let mut repeated = None;
     let mut total = Ok(Interval {

@@ -14,7 +14,8 @@ impl IntervalUnit {
     }
 }
 
-// The unit that a number names, if it names one: the inverse of `mark`.
+// The unit that a number names, if it names one: the inverse of `mark`. No `TryFrom`, which would want an error type that says no more than
+// None, and would keep the promise out of sight.
 #[tactic(auto, unfolding(crate::specs::Units::place))]
 pub fn unit_numbered(number: u8) -> Option<IntervalUnit>
     ensures { result ≡ unit_numbered number }

@@ -18,7 +18,7 @@ impl IntervalUnit {
     }
 }
 
-// The length of the white space character at a place, 0 for none: nearly always one space.
+// The length of the white space character at a place, 0 for none, which callers add to the place: nearly always one space.
 pub fn white_len(text: &[u8], at: usize) -> usize
     ensures { (result ≡ white_len (drop at text.now)) × (result ≤ length text.now - at) }
 {

@@ -3,7 +3,7 @@ ghost use Rattle.std.specs.Prelude.{◌≡◌, if◌then◌else◌, ltb, length,
 ghost use Rattle.ymd.specs.Forms.{to_hyphen, month_day};
 
 use crate::Ymd;
-use number::parse::parse_u32;
+use number::parse::parse;
 
 // The place of the first hyphen.
 pub fn find_hyphen(s: &[u8]) -> Option<usize>
@@ -17,7 +17,7 @@ pub fn month_day(year: i32, s: &[u8]) -> Option<Ymd>
     ensures { result ≡ month_day (Some year) (to_hyphen s.now) s.now }
 {
     let hyphen = find_hyphen(s)?;
-    let month = parse_u32(&s[..hyphen])?;
-    let day = parse_u32(&s[hyphen + 1..])?;
+    let month = parse(&s[..hyphen])?;
+    let day = parse(&s[hyphen + 1..])?;
     Some(Ymd { year, month, day })
 }

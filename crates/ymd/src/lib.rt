@@ -28,7 +28,7 @@ pub fn parse_extended_ymd(s: &[u8]) -> Option<Ymd>
     if hyphen < 4 {
         return None;
     }
-    let year = number::parse::parse_i32(&s[..hyphen + 1])?;
+    let year = number::parse::parse(&s[..hyphen + 1])?;
     extended::month_day(year, &s[hyphen + 2..])
 }
 
