@@ -1,9 +1,11 @@
 -- Amounts as the code reads them at a place: digits as a capped number, the whole part with its sign, the fraction. Assumes nothing.
-use mathlib.Core.Path.{◌≡◌, refl, sym, ◌∙◌}
-use mathlib.Core.Bool.{Bool, true, false, cond}
+use mathlib.Core.Path.{◌≡◌, refl, sym, ap, ◌∙◌}
+use mathlib.Core.Bool.{Bool, true, false, cond, Bool-set}
 use mathlib.Core.List.{List, [], ◌∷◌}
 use Rattle.std.specs.Prelude.{None, Some, Result, Ok, Err}
 use Prim.Native.Nat.{ℕ, zero, suc, ◌+◌, ◌-◌, ◌*◌, ◌^◌, ◌≤◌, ◌<◌, min}
+use mathlib.Core.HLevel.{is_prop→PathP}
+use native.Mathlib.Bridge.{le_prop}
 use native.Mathlib.Nat.{add-zero}
 use native.Mathlib.Numerals.{add-one}
 use native.Mathlib.Omega.{arith}
@@ -22,6 +24,7 @@ use Rattle.text.proofs.DigitLaws.{is_worth, run_on, run_off, run_end}
 use Rattle.number.specs.Widths.{in_signed, signed, fit}
 use Rattle.number.proofs.Ranges.{rd}
 use Rattle.amount.specs.Grammar.{precision, whole_fits, Value, valued, Amount}
+use Rattle.amount.specs.Proper.{Proper}
 use Rattle.amount.specs.Scan.{negative, sign_len, amount_len, amount_of}
 use Rattle.amount.specs.Found.{cap, PartIs, PointAt}
 use Rattle.amount.specs.Read.{value_of, ReadIs, amount_is}
@@ -256,17 +259,23 @@ module _ {s : List ℕ} {at p : ℕ} {neg : Bool} {z : ℤ} (Q : PointAt s at p 
 
 -- ---- the contract of `amount_at` leaves nothing free: two programs that meet it give the same answer for every text and place
 
--- an answer, an amount by its value
-abbrev pub answered : Result (IntervalAmount × ℕ) ℕ → Result (Value × ℕ) ℕ
-answered (Ok r) = Ok (value_of r.0, r.1)
-answered (Err p) = Err p
+-- amounts of one value are equal, since what an amount keeps of its numbers is a proof
+proper_prop : {i f : ℤ} → IsProp (Proper i f)
+proper_prop p q k = record { signs = Bool-set _ _ p.signs q.signs k; small = le_prop p.small q.small k }
 
-pub one_answer : (n : ℕ) (s : List ℕ) (at : ℕ) (r q : Result (IntervalAmount × ℕ) ℕ) → amount_is n s at r → amount_is n s at q → answered r ≡ answered q
+one_amount : (a b : IntervalAmount) → value_of a ≡ value_of b → a ≡ b
+one_amount a b e k = record {
+  integer = (e k).integer;
+  frac = (e k).frac;
+  proper = is_prop→PathP (λ j. Proper (e j).integer (e j).frac) (λ j. proper_prop) a.proper b.proper k;
+}
+
+pub one_answer : (n : ℕ) (s : List ℕ) (at : ℕ) (r q : Result (IntervalAmount × ℕ) ℕ) → amount_is n s at r → amount_is n s at q → r ≡ q
 unfolding amount_is
 one_answer n s at (Ok r) (Ok q) R Q =
     let k : r.1 ≡ q.1 = R.end_is ∙ sym Q.end_is in
-    let v : value_of r.0 ≡ value_of q.0 = one_value R.says (rw (← k) at Q.says) in
-    rw (k, v)
+    let v : r.0 ≡ q.0 = one_amount r.0 q.0 (one_value R.says (rw (← k) at Q.says)) in
+    λ i. Ok (v i, k i)
 one_answer n s at (Ok r) (Err q) R Q = absurd (omega (arith, R.further, R.end_is))
 one_answer n s at (Err p) (Ok q) R Q = absurd (omega (arith, Q.further, Q.end_is))
-one_answer n s at (Err p) (Err q) R Q = rw (R.1, Q.1)
+one_answer n s at (Err p) (Err q) R Q = ap Err (R.1 ∙ sym Q.1)

@@ -1,4 +1,5 @@
-// Amounts, as Rust's `IntervalAmount::from_str` takes them, read at a place of a text.
+// Amounts, as Rust's `IntervalAmount::from_str` takes them, read at a place of a text: the place goes by value beside the text, document 01's
+// cursor, and is told where there is no amount.
 #![tactic(auto)]
 
 ghost use Rattle.amount.specs.Grammar.{precision};

@@ -17,7 +17,7 @@ pub struct Number {
     pub len: usize,
 }
 
-// One digit more, up to a number that fits with no sign.
+// One digit more, up to a number that fits with no sign: no `checked_mul`, since the length is wanted where the number is too large, too.
 pub fn push(v: u64, d: u64) -> u64
     ensures { result ≡ min (v * 10 + d) cap }
 {
@@ -36,7 +36,7 @@ pub fn whole(text: &[u8]) -> Number
         if 10 <= d {
             return Number { value, len: i };
         }
-        value = push(value, d as u64);
+        value = push(value, u64::from(d));
     }
     Number {
         value,
@@ -62,7 +62,7 @@ pub fn fraction(text: &[u8]) -> Option<Number>
         if scale == 1 {
             return None;
         }
-        value = value * 10 + d as u64;
+        value = value * 10 + u64::from(d);
         scale /= 10;
     }
     Some(Number {
@@ -71,7 +71,7 @@ pub fn fraction(text: &[u8]) -> Option<Number>
     })
 }
 
-// A size with a sign.
+// A size with a sign; no Option, as `signed_i64` gives, since a fraction always fits.
 pub fn with_sign(neg: bool, size: u64) -> i64
     requires { size < 2 ^ 63 }
     ensures { result ≡ signed neg size }

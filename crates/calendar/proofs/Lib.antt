@@ -1,6 +1,6 @@
 -- Laws that belong to no one function.
 pub mod Years
-pub mod Table
+pub mod Starts
 pub mod Months
 pub mod Dates
 pub mod Days

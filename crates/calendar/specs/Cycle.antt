@@ -8,6 +8,5 @@ start zero = 0
 start (suc n) = start n + year_days (pos n)
 
 -- document 01, Dates and stamps: 401 day numbers, one for the start of each year of the cycle and one past the end
-pub record AreYearStarts (xs : List ℕ) : Type 0 where
-  pub size : length xs ≡ 401
-  pub starts : (y : ℕ) → y < 401 → get_or xs y 0 ≡ start y
+unfoldable pub YearStarts : List ℕ → Type 0
+YearStarts xs = (length xs ≡ 401) × ((y : ℕ) → y < 401 → get_or xs y 0 ≡ start y)

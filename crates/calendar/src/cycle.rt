@@ -3,7 +3,7 @@ ghost use Rattle.std.specs.Prelude.{◌≡◌, ◌+◌, ◌<◌, ◌≤◌, ◌+
 ghost use Rattle.calendar.specs.Calendar.{before};
 
 // The day number of each year's start in the cycle, and one past the end.
-pub const STARTS: [u32; 401] = [
+pub static STARTS: [u32; 401] = [
     0, 366, 731, 1096, 1461, 1827, 2192, 2557, 2922, 3288, 3653, 4018, 4383, 4749, 5114, 5479,
     5844, 6210, 6575, 6940, 7305, 7671, 8036, 8401, 8766, 9132, 9497, 9862, 10227, 10593, 10958,
     11323, 11688, 12054, 12419, 12784, 13149, 13515, 13880, 14245, 14610, 14976, 15341, 15706,
@@ -45,7 +45,7 @@ pub const EPOCH: i64 = 784_353_144_398;
 pub fn counted(year: i32) -> u64
     ensures { (pos result ≡ year +ℤ pos 2147484000) × (result < 4294967648) }
 {
-    (year as i64 + 2_147_484_000) as u64
+    (i64::from(year) + 2_147_484_000) as u64
 }
 
 // The days of the year before a month, 13 being the next January.

@@ -23,7 +23,8 @@ pub struct Secfrac {
 }
 
 // The digits that a text begins with, as nanoseconds: nine count, and those behind are passed over.
-// Their number, and one product where they end: a unit for each digit would be a division by ten in each turn.
+// Their number, and one product where they end: a unit for each digit would be a division by ten in each turn. By index, since past the end
+// of the text there is no digit, so that the loop has one way out for both ends.
 pub fn parse_nanos(s: &[u8]) -> Secfrac
     ensures { (result.nanos ≡ nanos_of (take (run s.now) s.now)) × (result.nanos < 1000000000) × (result.digits ≡ run s.now) × (result.digits ≤ length s.now) }
 {
@@ -36,7 +37,7 @@ pub fn parse_nanos(s: &[u8]) -> Secfrac
                 digits: i,
             };
         }
-        nanos = nanos * 10 + d as u32;
+        nanos = nanos * 10 + u32::from(d);
     }
     Secfrac {
         nanos,
@@ -69,7 +70,7 @@ pub fn from_hms_nano(hour: u8, min: u8, sec: u8, nano: u32) -> Option<NaiveTime>
     if 23 < hour || 59 < min || 60 < sec || 1_000_000_000 <= nano {
         return None;
     }
-    let minutes = hour as u32 * 60 + min as u32;
+    let minutes = u32::from(hour) * 60 + u32::from(min);
     if sec == 60 {
         return Some(NaiveTime {
             secs: minutes * 60 + 59,
@@ -77,7 +78,7 @@ pub fn from_hms_nano(hour: u8, min: u8, sec: u8, nano: u32) -> Option<NaiveTime>
         });
     }
     Some(NaiveTime {
-        secs: minutes * 60 + sec as u32,
+        secs: minutes * 60 + u32::from(sec),
         frac: nano,
     })
 }

@@ -1,5 +1,5 @@
-// A reader that holds a text and its place in it, and moves on: thin functions over `split_interval_component` and `place_after`, which do
-// the work.
+// A reader that holds a text and its place in it, and moves on, as document 01 names it: thin functions over `split_interval_component` and
+// `place_after`, which do the work.
 ghost use Rattle.std.specs.Prelude.{◌≡◌, ◌≤◌, length};
 ghost use Rattle.amount.specs.Grammar.{precision};
 ghost use Rattle.component.specs.Read.{piece_is, place_after, taken_is};

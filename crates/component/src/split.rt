@@ -1,4 +1,5 @@
-// The components of a text: Rust's `split_interval_components`, one component at a place, with the text and the place by value.
+// The components of a text: Rust's `split_interval_components`, one component at a place, with the text and the place by value,
+// document 01's cursor, since the place is told where a component goes wrong.
 ghost use Rattle.std.specs.Prelude.{◌≡◌, not, cond, ◌≤◌, length, get_or};
 ghost use Rattle.amount.specs.Grammar.{precision};
 ghost use Rattle.amount.specs.Read.{ReadIs, value_of};

@@ -1,5 +1,5 @@
-// Counts of months, of days, of nanoseconds and of milliseconds, which never pass for one another: each is made of a number once, and added
-// to its own kind alone, by a `plus` of its own.
+// Counts of months, of days, of nanoseconds and of milliseconds, document 01's tuple structs, which never pass for one another: each is made
+// of a number once, and added to its own kind alone, by a `plus` of its own.
 #![tactic(auto)]
 
 ghost use Rattle.std.specs.Prelude.{◌≡◌, ◌+ℤ◌};

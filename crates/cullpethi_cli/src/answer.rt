@@ -1,6 +1,6 @@
-// The answer of each reader, with the unit of its counts behind it.
+// The answer of each reader, with the unit of its counts behind it, which is why the columns stand here one by one.
 use crate::names::Reader;
-use crate::show::{Out, Outcome, count, day_time, interval, months};
+use crate::show::{Out, Outcome, count, interval};
 use date_column::{Date32Type, Date64Type};
 use interval::{
     parse_interval_day_time, parse_interval_month_day_nano, parse_interval_month_day_nano_config,
@@ -46,7 +46,7 @@ pub fn of(reader: Reader, text: &[u8], out: &mut Out) -> Outcome {
             let config = IntervalParseConfig::new(unit);
             interval(parse_interval_month_day_nano_config(text, config), out)
         }
-        Reader::IntervalYearMonth => months(parse_interval_year_month(text), out),
-        Reader::IntervalDayTime => day_time(parse_interval_day_time(text), out),
+        Reader::IntervalYearMonth => interval(parse_interval_year_month(text), out),
+        Reader::IntervalDayTime => interval(parse_interval_day_time(text), out),
     }
 }

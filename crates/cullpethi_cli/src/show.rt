@@ -10,6 +10,7 @@ use total::Interval;
 
 pub type Out = Room<65536>;
 
+// A refused text is an answer, no failure of the program: no Result, whose error would go up.
 #[derive(Clone, Copy)]
 pub enum Outcome {
     Read,
@@ -66,36 +67,40 @@ pub fn count<Z: Into<i64>>(r: Result<Z, Refusal>, unit: &[u8], out: &mut Out) ->
     }
 }
 
-pub fn months(r: Result<Months, IntervalRefusal>, out: &mut Out) -> Outcome {
+// An interval of any form.
+pub fn interval<I: Counted>(r: Result<I, IntervalRefusal>, out: &mut Out) -> Outcome {
     match r {
-        Ok(x) => {
-            put_count(x.0, b" months", out);
+        Ok(interval) => {
+            interval.put(out);
             Outcome::Read
         }
         Err(why) => refused_at(why, out),
     }
 }
 
-pub fn interval(r: Result<Interval, IntervalRefusal>, out: &mut Out) -> Outcome {
-    match r {
-        Ok(x) => {
-            put_count(x.months.0, b" months ", out);
-            put_count(x.days.0, b" days ", out);
-            put_count(x.nanos.0, b" nanoseconds", out);
-            Outcome::Read
-        }
-        Err(why) => refused_at(why, out),
+// What is put as counts, each with its unit.
+pub trait Counted {
+    fn put(self, out: &mut Out);
+}
+
+impl Counted for Months {
+    fn put(self, out: &mut Out) {
+        put_count(self.0, b" months", out);
     }
 }
 
-pub fn day_time(r: Result<IntervalDayTime, IntervalRefusal>, out: &mut Out) -> Outcome {
-    match r {
-        Ok(x) => {
-            put_count(x.days.0, b" days ", out);
-            put_count(x.millis.0, b" milliseconds", out);
-            Outcome::Read
-        }
-        Err(why) => refused_at(why, out),
+impl Counted for Interval {
+    fn put(self, out: &mut Out) {
+        put_count(self.months.0, b" months ", out);
+        put_count(self.days.0, b" days ", out);
+        put_count(self.nanos.0, b" nanoseconds", out);
+    }
+}
+
+impl Counted for IntervalDayTime {
+    fn put(self, out: &mut Out) {
+        put_count(self.days.0, b" days ", out);
+        put_count(self.millis.0, b" milliseconds", out);
     }
 }
 

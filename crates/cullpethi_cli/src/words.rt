@@ -52,6 +52,7 @@ pub fn all(env: &impl Env, to: Streams) -> Result<Words, Failure> {
     };
     // What `arg` fills.
     let mut space = [0u8; 4096];
+    // By number: the library's `args` allocates.
     for at in 1..usize::MAX {
         match env.arg(at, &mut space) {
             Ok(n) => words.take(to, &space[..n], at)?,

@@ -5,20 +5,20 @@ ghost use Rattle.text.specs.Digits.{is_digit};
 ghost use Rattle.stamp_text.specs.Answer.{datetime};
 ghost use Rattle.date.specs.Answer.{signed_day, on_day, plain_day, day_named, date_days};
 
-use calendar::YearStarts;
+use calendar::days_from_ymd;
 use refusal::Refusal;
 use text::digits::digit;
 use timestamp::stamp::string_to_datetime;
 
 // The day that a text names, counted from 1970-01-01: of a signed date, of a date of at most 10 bytes, or of a stamp.
 #[tactic(auto, unfolding(crate::specs::Answer::plain_day))]
-pub fn parse_date(starts: &YearStarts, s: &[u8]) -> Result<i64, Refusal>
+pub fn parse_date(s: &[u8]) -> Result<i64, Refusal>
     ensures { outcome result ≡ day_named s.now }
 {
     match s {
-        [b'+' | b'-', ..] => of_text(s, extended_day(starts, s)),
-        _ if s.len() <= 10 => of_text(s, ymd::short_day(starts, s)),
-        _ => Ok(string_to_datetime(starts, s)?.day),
+        [b'+' | b'-', ..] => of_text(s, extended_day(s)),
+        _ if s.len() <= 10 => of_text(s, ymd::short_day(s)),
+        _ => Ok(string_to_datetime(s)?.day),
     }
 }
 
@@ -49,16 +49,16 @@ fn ends_in_digit(s: &[u8]) -> bool
     }
 }
 
-fn extended_day(starts: &YearStarts, s: &[u8]) -> Option<i64>
+fn extended_day(s: &[u8]) -> Option<i64>
     ensures { result ≡ signed_day s.now }
 {
     let x = ymd::parse_extended_ymd(s)?;
-    starts.days_from_ymd(x.year, x.month, x.day)
+    days_from_ymd(x.year, x.month, x.day)
 }
 
 // Days since 1970-01-01.
-pub fn parse_date_to_days(starts: &YearStarts, s: &[u8]) -> Result<i32, Refusal>
+pub fn parse_date_to_days(s: &[u8]) -> Result<i32, Refusal>
     ensures { outcome result ≡ date_days s.now }
 {
-    number::checked::narrow(parse_date(starts, s)?).ok_or(Refusal::Range)
+    number::checked::narrow(parse_date(s)?).ok_or(Refusal::Range)
 }

@@ -1,4 +1,4 @@
-// Date columns. Each `parse` makes the table of year starts and lends it to its `parse_with`.
+// Date columns.
 #![tactic(auto)]
 
 ghost use Rattle.std.specs.Prelude.{◌≡◌, ◌≤◌, length, pos, ◌*ℤ◌};
@@ -11,7 +11,6 @@ ghost use Rattle.datetime.specs.Moment.{moment_of, instant};
 ghost use Rattle.clock.specs.Clock.{nanos_of_day};
 ghost use Rattle.date_column.specs.Answer.{millis, date32, date64};
 
-use calendar::YearStarts;
 use date::days::{parse_date, parse_date_to_days};
 use datetime::NaiveDateTime;
 use refusal::Refusal;
@@ -27,53 +26,38 @@ pub struct Date32Type {}
 pub struct Date64Type {}
 
 impl Date32Type {
+    // The days of the text as given, then of the trimmed text, in a line as in `stamp_column`: one function over the reader would be longer.
     pub fn parse(s: &[u8]) -> Result<i32, Refusal>
         ensures { outcome result ≡ date32 s.now }
     {
-        Date32Type::parse_with(&YearStarts::new(), s)
-    }
-
-    // The days of the text as given, then of the trimmed text.
-    pub fn parse_with(starts: &YearStarts, s: &[u8]) -> Result<i32, Refusal>
-        ensures { outcome result ≡ date32 s.now }
-    {
-        parse_date_to_days(starts, s).or_else(|_| parse_date_to_days(
-            starts,
-            trim_pre_and_post_whitespace(s),
-        ))
+        parse_date_to_days(s).or_else(|_| parse_date_to_days(trim_pre_and_post_whitespace(s)))
     }
 }
 
 impl Date64Type {
+    // A date up to 10 bytes, a stamp beyond that; never trimmed.
     pub fn parse(s: &[u8]) -> Result<i64, Refusal>
         ensures { outcome result ≡ date64 s.now }
     {
-        Date64Type::parse_with(&YearStarts::new(), s)
-    }
-
-    // A date up to 10 bytes, a stamp beyond that; never trimmed.
-    pub fn parse_with(starts: &YearStarts, s: &[u8]) -> Result<i64, Refusal>
-        ensures { outcome result ≡ date64 s.now }
-    {
         if s.len() <= 10 {
-            day_millis(starts, s)
+            day_millis(s)
         } else {
-            stamp_millis(starts, s)
+            stamp_millis(s)
         }
     }
 }
 
-fn day_millis(starts: &YearStarts, s: &[u8]) -> Result<i64, Refusal>
+fn day_millis(s: &[u8]) -> Result<i64, Refusal>
     requires { length s.now ≤ 10 }
     ensures { outcome result ≡ and_then (day_named s.now) (λ z. accepted (z *ℤ pos 86400000)) }
 {
-    Ok(parse_date(starts, s)? * 86_400_000)
+    Ok(parse_date(s)? * 86_400_000)
 }
 
-fn stamp_millis(starts: &YearStarts, s: &[u8]) -> Result<i64, Refusal>
+fn stamp_millis(s: &[u8]) -> Result<i64, Refusal>
     ensures { outcome result ≡ and_then (datetime s.now) (λ m. millis (instant m)) }
 {
-    Ok(timestamp_millis(string_to_datetime(starts, s)?))
+    Ok(timestamp_millis(string_to_datetime(s)?))
 }
 
 // Milliseconds of a day and a time of it, rounded down; the nanoseconds need not fit 64 bits.
@@ -82,7 +66,7 @@ fn timestamp_millis(dt: NaiveDateTime) -> i64
     requires time_bound { nanos_of_day dt.time ≤ 86401000000000 }
     ensures { result ≡ floor (instant (moment_of dt)) 1000000 }
 {
-    let secs = dt.time.secs as i64;
+    let secs = i64::from(dt.time.secs);
     let frac = dt.time.frac / 1_000_000;
-    (dt.day * 86_400 + secs) * 1_000 + frac as i64
+    (dt.day * 86_400 + secs) * 1_000 + i64::from(frac)
 }

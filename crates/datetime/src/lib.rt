@@ -22,7 +22,7 @@ pub fn to_timestamp_nanos(dt: NaiveDateTime) -> Option<i64>
     if dt.day < -200_000 || 200_000 < dt.day {
         return None;
     }
-    nanos_of(dt.day * 86_400 + dt.time.secs as i64, dt.time.frac)
+    nanos_of(dt.day * 86_400 + i64::from(dt.time.secs), dt.time.frac)
 }
 
 // Seconds and nanoseconds, as nanoseconds, where they fit. The size is put together before the sign, so that the least number is reached.
@@ -34,7 +34,7 @@ fn nanos_of(secs: i64, nanos: u32) -> Option<i64>
         return None;
     }
     let whole = m * 1_000_000_000;
-    let part = nanos as u64;
+    let part = u64::from(nanos);
     if 0 <= secs {
         signed_i64(false, whole + part)
     } else if part <= whole {

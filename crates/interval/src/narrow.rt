@@ -23,11 +23,10 @@ pub fn all_days(months: Months, days: Days) -> Option<Days>
 pub fn all_millis(nanos: Nanos) -> Option<Millis>
     ensures { maybe_millis result ≡ in_millis nanos.0 }
 {
-    let n = nanos.0;
-    if n % 1_000_000 != 0 {
-        return None;
+    match nanos.0 {
+        n if n % 1_000_000 == 0 => checked::narrow(n / 1_000_000).map(Millis),
+        _ => None,
     }
-    Some(Millis(checked::narrow(n / 1_000_000)?))
 }
 
 // The months, where there are no days and no nanoseconds.
@@ -35,15 +34,10 @@ pub fn all_millis(nanos: Nanos) -> Option<Millis>
 pub fn to_year_months(interval: Interval) -> Option<Months>
     ensures { maybe_months result ≡ to_year_months (counts_of interval) }
 {
-    let days = interval.days.0;
-    if days != 0 {
-        return None;
+    match (interval.days, interval.nanos) {
+        (Days(0), Nanos(0)) => Some(interval.months),
+        _ => None,
     }
-    let nanos = interval.nanos.0;
-    if nanos != 0 {
-        return None;
-    }
-    Some(interval.months)
 }
 
 #[tactic(auto, unfolding(crate::specs::Helpers::in_days, crate::specs::Helpers::in_millis, rule::specs::Answer::to_day_time, rule::specs::Answer::day_time_fits))]

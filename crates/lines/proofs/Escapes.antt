@@ -2,11 +2,11 @@
 use mathlib.Core.Path.{◌≡◌, refl, ◌∙◌, ap}
 use mathlib.Core.Bool.{Bool, true, false, cond}
 use mathlib.Core.List.{List, [], ◌∷◌, ◌++◌, append-nil}
-use Prim.Native.Nat.{ℕ, zero, suc, ◌-◌, ◌≤◌, ◌<◌}
+use Prim.Native.Nat.{ℕ, zero, suc, ◌≤◌, ◌<◌}
 use native.Mathlib.Omega.{arith}
 use lib.ListN.{length, take, drop, get_or, get_or-eq_default}
-use lib.Seq.{take_all, take-length}
-use Rattle.std.specs.Prelude.{Option, None, Some, slice_index_or}
+use lib.Seq.{take_all}
+use Rattle.std.specs.Prelude.{Option, None, Some}
 use Rattle.lines.specs.Escape.{pair_worth, hex_worth, escaped, written, unescaped_past, unescaped}
 use Rattle.room.proofs.Filling.{twice}
 
@@ -24,12 +24,8 @@ pub as_escaped : (s : List ℕ) (x : ℕ) → escaped s ≡ Some x → 0 < lengt
 as_escaped [] x e h = absurd (omega (arith, h))
 as_escaped (b ∷ t) x e h = step b t ∙ rw e
 
-pub as_it_stands : (s : List ℕ) → escaped s ≡ None → 0 < length s → unescaped s ≡ slice_index_or s 0 0 ∷ unescaped (take (length s - 1) (drop 1 s))
-as_it_stands [] e h = absurd (omega (arith, h))
-as_it_stands (b ∷ t) e h =
-    let r : take (length t) t ≡ t = take-length t in
-    let m : length (b ∷ t) - 1 ≡ length t = omega arith in
-    step b t ∙ rw (e, m, r)
+pub as_it_stands : (b : ℕ) (t : List ℕ) → escaped (b ∷ t) ≡ None → unescaped (b ∷ t) ≡ b ∷ unescaped t
+as_it_stands b t e = step b t ∙ rw e
 
 no_pair : (test : Bool) (x : Option ℕ) → cond test (pair_worth x None) None ≡ None
 no_pair true None = refl

@@ -17,21 +17,36 @@ pub trait EachLine {
     // Why no more of them are read.
     type Error: From<io::Error>;
 
+    // What each call keeps of what was held before it.
+    ghost keeps: { Self → Self → Type 0 };
+
     // A line without its line feed; none where it is longer than 65536 bytes.
-    fn line(&mut self, line: Option<&[u8]>) -> Result<(), Self::Error>;
+    fn line(&mut self, line: Option<&[u8]>) -> Result<(), Self::Error>
+        ensures { keeps self.old self.new };
 
     // The bytes behind the last line feed.
-    fn unended(&mut self, line: Option<&[u8]>) -> Result<(), Self::Error> {
+    fn unended(&mut self, line: Option<&[u8]>) -> Result<(), Self::Error>
+        ensures { keeps self.old self.new }
+    {
         self.line(line)
     }
 
     // What is to be done before more input is waited for.
-    fn pause(&mut self) -> Result<(), Self::Error> {
+    fn pause(&mut self) -> Result<(), Self::Error>
+        ensures { keeps self.old self.new }
+    {
         Ok(())
     }
+
+    ghost stays: { (a : Self) → keeps a a };
+
+    ghost goes_on: { (a b c : Self) → keeps a b → keeps b c → keeps a c };
 }
 
-pub fn each_line<E: EachLine>(input: &mut impl Read, each: &mut E) -> Result<(), E::Error> {
+// What each call keeps the whole keeps.
+pub fn each_line<E: EachLine>(input: &mut impl Read, each: &mut E) -> Result<(), E::Error>
+    ensures { E.keeps each.old each.new }
+{
     let mut line = Room::<HELD>::new();
     // What `read` fills.
     let mut piece = [0u8; 65536];
@@ -52,7 +67,9 @@ pub fn each_line<E: EachLine>(input: &mut impl Read, each: &mut E) -> Result<(),
 }
 
 // Each line that ends in these bytes; the rest is held.
-fn each_in<E: EachLine>(input: &[u8], line: &mut Room<HELD>, each: &mut E) -> Result<(), E::Error> {
+fn each_in<E: EachLine>(input: &[u8], line: &mut Room<HELD>, each: &mut E) -> Result<(), E::Error>
+    ensures { E.keeps each.old each.new }
+{
     let mut rest = input;
     while let Some(behind) = take_line(rest, line) {
         each.line(whole(line))?;

@@ -18,17 +18,11 @@ pub fn unescape<const N: usize>(s: &[u8], out: &mut Room<N>)
 }
 
 // The first byte of a text, and what stands behind what writes it.
-#[tactic(auto, using(crate::proofs::Escapes::as_escaped, crate::proofs::Escapes::as_it_stands))]
 fn first(s: &[u8]) -> Option<(u8, &[u8])>
     ensures { MatchOption result (s.now ≡ []) (λ x. (unescaped s.now ≡ x.0 ∷ unescaped x.1.now) × (length x.1.now < length s.now)) }
 {
-    if let Some(escape) = escape(s) {
-        return Some(escape);
-    }
-    match s {
-        [b, rest @ ..] => Some((*b, rest)),
-        [] => None,
-    }
+    let (&byte, behind) = s.split_first()?;
+    Some(escape(s).unwrap_or((byte, behind)))
 }
 
 // The byte that an escape in front of a text writes, and what stands behind the escape.
@@ -49,8 +43,8 @@ fn hex(b: u8) -> Option<u8>
     ensures bound { IfSome result (λ n. n < 16) }
 {
     match b {
-        b'0'..=b'9' => Some(b - 48),
-        b'A'..=b'F' => Some(b - 55),
+        b'0'..=b'9' => Some(b - b'0'),
+        b'A'..=b'F' => Some(b - b'A' + 10),
         _ => None,
     }
 }

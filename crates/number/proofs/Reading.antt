@@ -58,8 +58,9 @@ module _ (w : Width) (neg : Bool) {s : List ℕ} {at i a : ℕ} (first : at < le
     too_long g l = past (omega (arith, r.number, value_on s i d h f e a g, grows (drop (i + 1) s) (a * 10 + d)))
 
 -- one digit more
-pub one_more : {s : List ℕ} {at i a d : ℕ} → GoesOn s at i a → i < length s → get_or s i 0 < 256 → d ≡ digit_of (get_or s i 0) → d < 10 → GoesOn s at (i + 1) (a * 10 + d)
-one_more {s} {at} {i} {a} {d} r h f e g = record { number = sym (value_on s i d h f e a g) ∙ r.number; figures = sym (digits_on s i d h f e g) ∙ r.figures }
+pub one_more : {s : List ℕ} {at i a b d : ℕ} → GoesOn s at i a → i < length s → get_or s i 0 < 256 → d ≡ digit_of (get_or s i 0) → d < 10 → b ≡ a * 10 + d → GoesOn s at (i + 1) b
+one_more {s} {at} {i} {a} {b} {d} r h f e g q =
+    record { number = rw q (sym (value_on s i d h f e a g) ∙ r.number); figures = sym (digits_on s i d h f e g) ∙ r.figures }
 
 -- ---- a text by its first byte
 

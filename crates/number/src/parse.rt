@@ -96,10 +96,7 @@ fn digits_after(neg: bool, s: &[u8]) -> Option<i64>
         if 10 <= d {
             return None;
         }
-        if 922337203685477580 < a {
-            return None;
-        }
-        a = a * 10 + d as u64;
+        a = a.checked_mul(10)?.checked_add(u64::from(d))?;
     }
     sign::signed_i64(neg, a)
 }

@@ -35,3 +35,6 @@ no_end n from ends i h = rw (drop_of_length-le ends {i = i} h) refl
 pub next : (n from : ℕ) (ends : List ℕ) (i : ℕ) → i < length ends → in_order n from (drop i ends) ≡ true
     → ((from ≤ get_or ends i 0) × (get_or ends i 0 ≤ n)) × (in_order n (get_or ends i 0) (drop (i + 1) ends) ≡ true)
 next n from ends i h e = in_order_lem n from (get_or ends i 0) (drop (i + 1) ends) (ap (in_order n from) (sym (next_end ends i h)) ∙ e)
+
+-- what decides of the ends, one after another
+pub ruleset ends_seen = (falls, passes, goes_on, no_end)

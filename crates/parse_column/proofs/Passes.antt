@@ -1,15 +1,16 @@
 -- What one reading of the texts finds is what the whole column answers. Assumes nothing.
 use mathlib.Core.Path.{◌≡◌, refl, sym, ap, ◌∙◌}
-use mathlib.Core.Bool.{true, false, ◌&&◌}
+use mathlib.Core.Bool.{true, false}
 use mathlib.Core.List.{List, [], ◌∷◌, ◌++◌}
 use Rattle.std.specs.Prelude.{Option, None, Some}
-use Prim.Native.Nat.{ℕ, suc, ◌+◌, ◌≤◌}
+use Prim.Native.Nat.{ℕ, suc, ◌+◌, ◌≤◌, ◌<◌}
 use native.Mathlib.Nat.{add-zero, zero-add}
 use native.Mathlib.Omega.{arith}
-use lib.Dec.{leb}
 use lib.IntN.{ℤ}
 use lib.ListN.{length, take, drop, set, length-set, take-append-drop}
 use lib.Seq.{take-suc-set, drop-set-lt, append_snoc}
+use borrow.Author.Tests.{le-leb, lt-leb}
+use Rattle.text.proofs.Bools.{and_false}
 use Rattle.text.proofs.Logic.{none_some}
 use Rattle.refusal.specs.Outcome.{Outcome, accepted, refused}
 use Rattle.whole_column.specs.Answer.{Whole, all_accepted, first_refused, not_read, in_order, cut, behind, on_text, read_all, whole, stored, cells_after}
@@ -87,10 +88,10 @@ module _ (read : List ℕ → Outcome ℤ) where
   one_refused i [] n j e = none_some (sym e)
   one_refused i (t ∷ texts) n j e = at_text i t texts n j (read t) refl (one_refused (suc i) texts n j) e
 
-  module _ (bytes ends : List ℕ) (cells : List ℤ) (fit : in_order (length bytes) 0 ends && leb (length ends) (length cells) ≡ true) where
+  module _ (bytes ends : List ℕ) (cells : List ℤ) (ordered : in_order (length bytes) 0 ends ≡ true) (room : length ends ≤ length cells) where
     answers : {w : Whole} → read_all read (cut bytes 0 ends) ≡ w → whole read bytes ends (length cells) ≡ w
     unfolding whole
-    answers e = rw fit e
+    answers e = rw (ordered, le-leb (length ends) (length cells) room) e
 
     -- the answer and the cells, of texts that are all accepted
     pub accepted_all : (after : List ℤ) → None ≡ refused_from read 0 (cut bytes 0 ends) → after ≡ stored_from read 0 (cut bytes 0 ends) cells
@@ -113,7 +114,18 @@ module _ (read : List ℕ → Outcome ℤ) where
         let w = answers r.answer in
         (ap (first_refused n) (r.counted ∙ zero-add r.index) ∙ sym w, ap (λ (x : Whole). cells_after x cells) (sym w))
 
-  pub none_read : (bytes ends : List ℕ) (cells : List ℤ) → in_order (length bytes) 0 ends && leb (length ends) (length cells) ≡ false
-      → (not_read 13 ≡ whole read bytes ends (length cells)) × (cells ≡ cells_after (whole read bytes ends (length cells)) cells)
-  unfolding whole cells_after
-  none_read bytes ends cells e = rw e (refl, refl)
+  module _ (bytes ends : List ℕ) (cells : List ℤ) where
+    -- no text is read, and the cells stay as they were
+    abbrev pub NoneRead : Type 0
+    NoneRead = (not_read 13 ≡ whole read bytes ends (length cells)) × (cells ≡ cells_after (whole read bytes ends (length cells)) cells)
+
+    pub out_of_order : in_order (length bytes) 0 ends ≡ false → NoneRead
+    unfolding whole cells_after
+    out_of_order e = rw e (refl, refl)
+
+    pub too_few_cells : length cells < length ends → NoneRead
+    unfolding whole cells_after
+    too_few_cells h = rw (lt-leb (length ends) (length cells) h, and_false (in_order (length bytes) 0 ends)) (refl, refl)
+
+-- why no text is read
+pub ruleset unread = (out_of_order, too_few_cells)

@@ -9,7 +9,7 @@ use lib.ListN.{length, get_or, take, drop, set, drop_of_length-le}
 use Rattle.refusal.specs.Outcome.{Outcome, accepted, refused}
 use Rattle.whole_column.specs.Answer.{cut}
 use Rattle.parse_column.specs.Helpers.{or_later, refused_from, on_value, stored_from}
-use Rattle.parse_column.proofs.Order.{next_end}
+use Rattle.parse_column.proofs.Order.{next_end, next}
 
 module _ (read : List ℕ → Outcome ℤ) (bytes ends : List ℕ) (from i : ℕ) where
   abbrev pub rest_of : List (List ℕ)
@@ -49,3 +49,6 @@ module _ (read : List ℕ → Outcome ℤ) (bytes ends : List ℕ) (from i : ℕ
   pub none_stored : (cells : List ℤ) → length ends ≤ i → stored_from read i rest_of cells ≡ cells
   unfolding stored_from cut
   none_stored cells h = rw (drop_of_length-le ends {i = i} h) refl
+
+-- all that a reading of the texts goes by
+pub ruleset turns = (next, goes_on, stops, stores, keeps, none_left, none_stored)

@@ -8,7 +8,6 @@ ghost use Rattle.refusal.specs.Outcome.{outcome};
 ghost use Rattle.whole_column.specs.Answer.{whole};
 ghost use Rattle.parse_column.specs.Read.{Answers};
 
-use calendar::YearStarts;
 use column::Column;
 use date_column::{Date32Type, Date64Type};
 use refusal::Refusal;
@@ -16,11 +15,11 @@ use stamp_column::{
     TimestampMicrosecondType, TimestampMillisecondType, TimestampNanosecondType,
     TimestampSecondType,
 };
+use texts::Texts;
 use time_column::{
     Time32MillisecondType, Time32SecondType, Time64MicrosecondType, Time64NanosecondType,
 };
 
-mod ends;
 pub mod numbers;
 mod texts;
 
@@ -31,7 +30,8 @@ pub enum ColumnRefusal {
     Call(Refusal),
 }
 
-// The values of all texts into the first cells, or the first refused text. The table of year starts is made once for the column.
+// The values of all texts into the first cells, or the first refused text. Bytes and ends, as the C interface has them.
+#[tactic(auto, using(crate::proofs::Passes::unread))]
 pub fn parse_column(
     column: Column,
     texts: &[u8],
@@ -40,31 +40,31 @@ pub fn parse_column(
 ) -> Result<(), ColumnRefusal>
     ensures { Answers (whole (reads «column») texts.now ends.now (length cells.old)) result (length ends.now) cells.old cells.new }
 {
-    if !ends::fit(texts, ends, cells.len()) {
-        return Err(ColumnRefusal::Call(Refusal::Column));
-    }
-    let starts = YearStarts::new();
-    if let Some((why, index)) = texts::first_refused(&starts, column, texts, ends) {
+    let texts = match Texts::new(texts, ends) {
+        Some(texts) if ends.len() <= cells.len() => texts,
+        _ => return Err(ColumnRefusal::Call(Refusal::Column)),
+    };
+    if let Some((why, index)) = texts.first_refused(column) {
         return Err(ColumnRefusal::Text(why, index));
     }
-    texts::store(&starts, column, texts, ends, cells);
+    texts.store(column, cells);
     Ok(())
 }
 
 // The `parse` of a column's type, in 64 bits.
-pub fn parse(starts: &YearStarts, column: Column, text: &[u8]) -> Result<i64, Refusal>
+pub fn parse(column: Column, text: &[u8]) -> Result<i64, Refusal>
     ensures { outcome result ≡ reads «column» text.now }
 {
     match column {
-        Column::TimestampNanosecond => TimestampNanosecondType::parse_with(starts, text),
-        Column::TimestampMicrosecond => TimestampMicrosecondType::parse_with(starts, text),
-        Column::TimestampMillisecond => TimestampMillisecondType::parse_with(starts, text),
-        Column::TimestampSecond => TimestampSecondType::parse_with(starts, text),
+        Column::TimestampNanosecond => TimestampNanosecondType::parse(text),
+        Column::TimestampMicrosecond => TimestampMicrosecondType::parse(text),
+        Column::TimestampMillisecond => TimestampMillisecondType::parse(text),
+        Column::TimestampSecond => TimestampSecondType::parse(text),
         Column::Time64Nanosecond => Time64NanosecondType::parse(text),
         Column::Time64Microsecond => Time64MicrosecondType::parse(text),
         Column::Time32Millisecond => Time32MillisecondType::parse(text).map(i64::from),
         Column::Time32Second => Time32SecondType::parse(text).map(i64::from),
-        Column::Date32 => Date32Type::parse_with(starts, text).map(i64::from),
-        Column::Date64 => Date64Type::parse_with(starts, text),
+        Column::Date32 => Date32Type::parse(text).map(i64::from),
+        Column::Date64 => Date64Type::parse(text),
     }
 }

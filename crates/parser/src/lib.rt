@@ -6,7 +6,7 @@ ghost use Rattle.text.specs.Digits.{is_digit};
 ghost use Rattle.stamp_text.specs.Answer.{day_of, basic_time, after_seconds, time_of};
 ghost use Rattle.parser.specs.Read.{fields_of, basic_fields_of, ends_at};
 
-use calendar::YearStarts;
+use calendar::days_from_ymd;
 use clock::{NaiveTime, from_hms_nano, parse_nanos};
 use text::byte_at;
 use text::digits::{COLON, HYPHEN, POINT, digit, two};
@@ -19,9 +19,9 @@ pub struct Fields {
     pub second: u8,
 }
 
-// Parses a date of the form `1997-01-31`.
+// Parses a date of the form `1997-01-31`. `as`: of `from` the proof did not close.
 #[tactic(auto, unfolding(stamp_text::specs::Answer::day_of))]
-pub fn date(starts: &YearStarts, s: &[u8]) -> Option<i64>
+pub fn date(s: &[u8]) -> Option<i64>
     ensures { result ≡ day_of s.now }
 {
     if s.len() < 10 {
@@ -35,7 +35,7 @@ pub fn date(starts: &YearStarts, s: &[u8]) -> Option<i64>
         return None;
     }
     let whole_year = century as u32 * 100 + year as u32;
-    starts.days_from_ymd(whole_year as i32, month as u32, day_of_month as u32)
+    days_from_ymd(whole_year as i32, month as u32, day_of_month as u32)
 }
 
 // Parses a time of any of the forms, from byte 11 on

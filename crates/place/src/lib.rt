@@ -24,7 +24,7 @@ pub enum IntervalRefusal {
 }
 
 impl IntervalRefusal {
-    // The refusal without its place.
+    // The refusal without its place. By name and no `From`, since no `?` should drop a place unseen.
     pub fn refusal(self) -> Refusal
         ensures { result ≡ refusal_of self }
     {
@@ -49,11 +49,10 @@ impl IntervalRefusal {
         ensures { result ≡ place_in self }
     {
         match self {
-            IntervalRefusal::NotUtf8 => None,
-            IntervalRefusal::Interval(at) => Some(at),
-            IntervalRefusal::RepeatedUnit(at) => Some(at),
-            IntervalRefusal::Overflow(at) => Some(at),
-            IntervalRefusal::Narrowed => None,
+            IntervalRefusal::NotUtf8 | IntervalRefusal::Narrowed => None,
+            IntervalRefusal::Interval(at)
+            | IntervalRefusal::RepeatedUnit(at)
+            | IntervalRefusal::Overflow(at) => Some(at),
         }
     }
 

@@ -1,6 +1,6 @@
 // The answer of each reader.
 use crate::{columns, intervals, show, whole};
-use calendar::YearStarts;
+use calendar::days_from_ymd;
 use lines::input::split_once;
 use number::parse::parse;
 use std::io;
@@ -49,6 +49,5 @@ fn day(out: &impl Print, text: &[u8]) -> io::Result<()> {
     let Some(day) = parse::<u32>(day) else {
         return show::bytes(out, b"no day");
     };
-    let starts = YearStarts::new();
-    show::maybe(out, starts.days_from_ymd(year, month, day))
+    show::maybe(out, days_from_ymd(year, month, day))
 }

@@ -12,7 +12,8 @@ use time_column::{
 };
 use timestamp::stamp::string_to_timestamp_nanos;
 
-// What the reader of a name answers, where it is one of theirs.
+// What the reader of a name answers, where it is one of theirs. Each is called by its own name, so that each is run; `replay` has the names too,
+// and other readers beside them.
 pub fn of(name: &[u8], text: &[u8]) -> Option<Result<i64, Refusal>> {
     Some(match name {
         b"stamp" => string_to_timestamp_nanos(text),

@@ -9,7 +9,8 @@ use place::IntervalRefusal;
 use std::io;
 use total::{Interval, IntervalParseConfig};
 
-// Shows what the reader of a name answers, where it is one of theirs.
+// Shows what the reader of a name answers, where it is one of theirs. Two of the three forms are read here alone: a match beside each is shorter
+// than a trait of their counts.
 pub fn of(out: &impl Print, name: &[u8], text: &[u8]) -> Option<io::Result<()>> {
     Some(match name {
         b"interval" => interval(out, parse_interval_month_day_nano(text)),

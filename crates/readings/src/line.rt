@@ -1,4 +1,6 @@
 // A line: a reader's name and the text, parted by a space.
+ghost use Rattle.std.specs.Prelude.{⊤};
+
 use crate::{answer, show};
 use lines::each::EachLine;
 use lines::escape::unescape;
@@ -14,12 +16,19 @@ pub struct Readings<'a, P: Print> {
 impl<P: Print> EachLine for Readings<'_, P> {
     type Error = io::Error;
 
+    // Nothing is held from line to line.
+    ghost keeps = { λ _ _. ⊤ };
+
     fn line(&mut self, line: Option<&[u8]>) -> io::Result<()> {
         match line {
             Some(line) => shown(self.out, line),
             None => show::bytes(self.out, b"a line longer than 65536 bytes is not read\n"),
         }
     }
+
+    ghost stays = { λ _. tt };
+
+    ghost goes_on = { λ _ _ _ _ _. tt };
 }
 
 fn shown(out: &impl Print, line: &[u8]) -> io::Result<()> {

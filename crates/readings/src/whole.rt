@@ -1,5 +1,6 @@
 // A whole column, by the delivered call: the column's number, how many cells there are, and the ends, parted by spaces; then a bar and the
-// texts. Before the call each cell holds 7 and the index 99.
+// texts. Before the call each cell holds 7 and the index 99, so that what the
+// call does not write shows.
 use crate::show;
 use arrayvec::ArrayVec;
 use cullpethi::cullpethi_parse_column;
@@ -25,7 +26,7 @@ pub fn of(out: &impl Print, text: &[u8]) -> io::Result<()> {
     called(out, column, texts, ends, cells)
 }
 
-// The numbers in front, as far as there is room; what is no number counts as 0.
+// The numbers in front, as far as there is room; what is no number counts as 0. A `while` over what is left: nothing is counted.
 fn numbers_in(s: &[u8]) -> ArrayVec<u32, 16> {
     let mut numbers = ArrayVec::new();
     let mut rest = s;

@@ -1,4 +1,7 @@
 // How many lines passed and failed.
+ghost use Rattle.std.specs.Prelude.{◌≤◌};
+ghost use Rattle.std.proofs.Common.{le_refl, le_trans};
+
 use crate::line;
 use lines::each::EachLine;
 use std::io;
@@ -19,8 +22,10 @@ impl<'a, P: Print> Tally<'a, P> {
         }
     }
 
-    // No run counts as far as the greatest number.
-    fn count(&mut self, passed: bool) {
+    // No run counts as far as the greatest number. By what a line told: no step is chosen by the caller.
+    fn count(&mut self, passed: bool)
+        ensures { (self.old.passed ≤ self.new.passed) × (self.old.failed ≤ self.new.failed) }
+    {
         if passed {
             self.passed = self.passed.saturating_add(1);
         } else {
@@ -31,6 +36,9 @@ impl<'a, P: Print> Tally<'a, P> {
 
 impl<P: Print> EachLine for Tally<'_, P> {
     type Error = io::Error;
+
+    // No line that was counted is forgotten.
+    ghost keeps = { λ a b. (a.passed ≤ b.passed) × (a.failed ≤ b.failed) };
 
     fn line(&mut self, line: Option<&[u8]>) -> io::Result<()> {
         let passed = match line {
@@ -46,4 +54,8 @@ impl<P: Print> EachLine for Tally<'_, P> {
         self.count(false);
         Ok(())
     }
+
+    ghost stays = { λ a. (le_refl a.passed, le_refl a.failed) };
+
+    ghost goes_on = { λ a b c p q. (le_trans p.0 q.0, le_trans p.1 q.1) };
 }

@@ -8,7 +8,8 @@ ghost use Rattle.room.specs.Room.{appended};
 
 use std::marker::Model;
 
-// At most N bytes, in the order in which they were put. An ArrayVec refuses what does not fit whole; here as much of it is put as fits.
+// At most N bytes, in the order in which they were put. An ArrayVec refuses what does not fit whole; here as much of it is put as fits, so that
+// one over it would put byte by byte.
 #[derive(Drop)]
 pub struct Room<const N: usize> {
     bytes: [u8; N],

@@ -146,6 +146,10 @@ module _ (n : ℕ) (u : IntervalUnit) where
 -- ---- the answer
 
 module _ (n : ℕ) (u : IntervalUnit) (t : List ℕ) where
+  pub undivided_answer : divide n t ≡ None → month_day_nano n u t ≡ cond (utf8 t) (refused 8) (refused 1)
+  unfolding month_day_nano on_division
+  undivided_answer e = rw e
+
   -- by the division: a text that has one need not be tested for UTF-8
   pub divided_answer : {d : List Component} → divide n t ≡ Some d → month_day_nano n u t ≡ on_division n u (Some d)
   unfolding month_day_nano

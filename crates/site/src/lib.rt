@@ -5,7 +5,6 @@ ghost use Rattle.std.specs.Prelude.{◌≡◌};
 ghost use Rattle.refusal.specs.Outcome.{outcome};
 ghost use Rattle.site.specs.Site.{is_site, site_nanos};
 
-use calendar::YearStarts;
 use refusal::Refusal;
 use text::digits::{CAPITAL_T, CAPITAL_Z, digit};
 use timestamp::stamp;
@@ -14,14 +13,7 @@ use timestamp::stamp;
 pub fn site_stamp(s: &[u8]) -> Result<i64, Refusal>
     ensures { outcome result ≡ site_nanos s.now }
 {
-    site_stamp_with(&YearStarts::new(), s)
-}
-
-// The same with the table of year starts lent.
-pub fn site_stamp_with(starts: &YearStarts, s: &[u8]) -> Result<i64, Refusal>
-    ensures { outcome result ≡ site_nanos s.now }
-{
-    let z = stamp::string_to_timestamp_nanos_with(starts, s)?;
+    let z = stamp::string_to_timestamp_nanos(s)?;
     if is_site(s) {
         Ok(z)
     } else {

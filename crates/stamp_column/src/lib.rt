@@ -1,4 +1,4 @@
-// Timestamp columns: nanoseconds divided toward zero. `parse` makes the table of year starts and lends it to `parse_with`.
+// Timestamp columns: nanoseconds divided toward zero.
 #![tactic(auto)]
 
 ghost use Rattle.std.specs.Prelude.{◌≡◌};
@@ -7,19 +7,16 @@ ghost use Rattle.refusal.specs.Outcome.{outcome};
 ghost use Rattle.stamp_text.specs.Answer.{stamp_nanos};
 ghost use Rattle.stamp_column.specs.Answer.{timestamp_column};
 
-use calendar::YearStarts;
 use refusal::Refusal;
 use std::marker::PhantomData;
 use text::trim::trim_pre_and_post_whitespace;
-use timestamp::stamp::string_to_timestamp_nanos_with;
-use units::{Microsecond, Millisecond, Nanosecond, Second, TimeUnit};
-
-pub mod units;
+use time_unit::{Microsecond, Millisecond, Nanosecond, Second, TimeUnit};
+use timestamp::stamp::string_to_timestamp_nanos;
 
 // A timestamp column, by its unit.
 #[derive(Clone, Copy)]
 pub struct TimestampType<U> {
-    unit: PhantomData<U>,
+    pub unit: PhantomData<U>,
 }
 
 pub type TimestampNanosecondType = TimestampType<Nanosecond>;
@@ -34,22 +31,15 @@ impl<U: TimeUnit> TimestampType<U> {
     pub fn parse(s: &[u8]) -> Result<i64, Refusal>
         ensures { outcome result ≡ timestamp_column U.NANOS s.now }
     {
-        TimestampType::<U>::parse_with(&YearStarts::new(), s)
-    }
-
-    pub fn parse_with(starts: &YearStarts, s: &[u8]) -> Result<i64, Refusal>
-        ensures { outcome result ≡ timestamp_column U.NANOS s.now }
-    {
-        Ok(nanos(starts, s)? / U::NANOS as i64)
+        Ok(nanos(s)? / i64::from(U::NANOS))
     }
 }
 
-// The nanoseconds of the text as given, then of the trimmed text.
-fn nanos(starts: &YearStarts, s: &[u8]) -> Result<i64, Refusal>
+// The nanoseconds of the text as given, then of the trimmed text, in a line as in `date_column`.
+fn nanos(s: &[u8]) -> Result<i64, Refusal>
     ensures { outcome result ≡ retried stamp_nanos s.now }
 {
-    string_to_timestamp_nanos_with(starts, s).or_else(|_| string_to_timestamp_nanos_with(
-        starts,
-        trim_pre_and_post_whitespace(s),
-    ))
+    string_to_timestamp_nanos(s).or_else(|_| string_to_timestamp_nanos(trim_pre_and_post_whitespace(
+        s,
+    )))
 }

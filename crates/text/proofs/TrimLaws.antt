@@ -1,24 +1,46 @@
--- Trimming: blanks taken from either end one by one, and that what is computed is the trimmed text. Assumes nothing.
-use Rattle.std.proofs.Common.{◌≡◌, ℕ, zero, suc, ◌-◌, ◌<◌, ◌≤◌, true, false, List, [], ◌∷◌, ◌++◌, length, get_or, take, drop, sym, refl, ap, ◌∙◌, sub-one, arith, take-suc, ne_eqb}
+-- Trimming: what the library's methods leave is what is computed, and which ends need be trimmed at all. Assumes nothing.
+use Rattle.std.proofs.Common.{◌≡◌, ℕ, zero, suc, ◌-◌, ◌<◌, ◌≤◌, false, List, [], ◌∷◌, ◌++◌, length, get_or, take, drop, sym, refl, ap, ◌∙◌, sub-one, arith, take-suc, ne_eqb}
 use lib.Seq.{take-length}
+use Rattle.std.specs.Char.{is_ascii_whitespace}
+use Rattle.std.specs.Str.{IsAsciiWhitespaceBelow, IsAsciiWhitespaceFrom, IsTrimAsciiStart, IsTrimAsciiEnd}
 use Rattle.text.specs.Digits.{digit_of}
 use Rattle.text.specs.Trim.{blank, trim_start, before, trim_end, trimmed}
 use Rattle.text.proofs.Bools.{by_test}
 
--- ---- from the start
+-- ---- what the library leaves
 
--- a text without its first byte, a blank
-pub start_step : (t : List ℕ) → 1 ≤ length t → blank (get_or t 0 0) ≡ true → trim_start (take (length t - 1) (drop 1 t)) ≡ trim_start t
+-- its white space are the blanks
+pub whitespace_is : (b : ℕ) → is_ascii_whitespace b ≡ blank b
+whitespace_is b = grind arith
+
+dropped : (s : List ℕ) (n : ℕ) → n ≤ length s → IsAsciiWhitespaceBelow s n → (n < length s → is_ascii_whitespace (get_or s n 0) ≡ false) → drop n s ≡ trim_start s
 unfolding trim_start
-start_step [] h e = absurd (omega arith)
-start_step (b ∷ t) h e = rw (e, sub-one, take-length t)
+dropped [] zero h below at = refl
+dropped [] (suc n) h below at = refl
+dropped (b ∷ t) zero h below at = rw (← whitespace_is b, at (omega arith)) refl
+dropped (b ∷ t) (suc n) h below at =
+    rw (← whitespace_is b, below 0 (omega arith))
+    (dropped t n (omega (arith, h)) (λ i p. below (suc i) (omega (arith, p))) (λ p. at (omega (arith, p))))
 
--- ---- from the end
+pub start_is : {s r : List ℕ} → IsTrimAsciiStart s r → r ≡ trim_start s
+start_is {s} {r} p = p.1 ∙ dropped s p.0 (omega (arith, p.2)) p.3 p.4
 
-pub snoc_blank : (t : List ℕ) (b : ℕ) → blank b ≡ true → trim_end (t ++ (b ∷ [])) ≡ trim_end t
+taken : (s : List ℕ) (n : ℕ) → n ≤ length s → IsAsciiWhitespaceFrom s n → (0 < n → is_ascii_whitespace (get_or s (n - 1) 0) ≡ false) → take n s ≡ trim_end s
 unfolding trim_end
-snoc_blank [] b e = rw e
-snoc_blank (a ∷ t) b e = rw (snoc_blank t b e)
+taken [] zero h from at = refl
+taken [] (suc n) h from at = refl
+taken (b ∷ t) zero h from at =
+    rw (← taken t 0 (omega arith) (λ i p q. from (suc i) (omega arith) (omega (arith, q))) (λ p. absurd (omega (arith, p))), ← whitespace_is b, from 0 (omega arith) (omega arith)) refl
+taken (b ∷ t) (suc zero) h from at =
+    rw (← taken t 0 (omega arith) (λ i p q. from (suc i) (omega arith) (omega (arith, q))) (λ p. absurd (omega (arith, p))), ← whitespace_is b, at (omega arith)) refl
+taken (b ∷ []) (suc (suc n)) h from at = absurd (omega (arith, h))
+taken (b ∷ c ∷ t) (suc (suc n)) h from at =
+    rw (← taken (c ∷ t) (suc n) (omega (arith, h)) (λ i p q. from (suc i) (omega (arith, p)) (omega (arith, q))) (λ p. rw sub-one (rw sub-one at (at (omega arith))))) refl
+
+pub end_is : {s r : List ℕ} → IsTrimAsciiEnd s r → r ≡ trim_end s
+end_is {s} {r} p = p.1 ∙ taken s p.0 p.3 p.4 p.5
+
+-- ---- the last byte
 
 -- a byte before a text that has a last byte
 before_snoc : (a b : ℕ) (t : List ℕ) → before a (t ++ (b ∷ [])) ≡ a ∷ (t ++ (b ∷ []))
@@ -34,17 +56,6 @@ snoc_kept (a ∷ t) b e = rw (snoc_kept t b e) (before_snoc a b t)
 last : (s : List ℕ) (n : ℕ) → 0 < n → n ≤ length s → take n s ≡ take (n - 1) s ++ (get_or s (n - 1) 0 ∷ [])
 last s zero p h = absurd (omega arith)
 last s (suc n) p h = rw sub-one (take-suc s n 0 h)
-
-module _ (s : List ℕ) (n : ℕ) (p : 0 < n) (h : n ≤ length s) where
-  pub end_on : blank (get_or s (n - 1) 0) ≡ true → trim_end (take n s) ≡ trim_end (take (n - 1) s)
-  end_on e = rw (last s n p h) (snoc_blank (take (n - 1) s) (get_or s (n - 1) 0) e)
-
-  pub end_off : blank (get_or s (n - 1) 0) ≡ false → trim_end (take n s) ≡ take n s
-  end_off e = rw (last s n p h) (snoc_kept (take (n - 1) s) (get_or s (n - 1) 0) e)
-
--- a text without its last byte, a blank
-pub end_step : (t : List ℕ) → 1 ≤ length t → blank (get_or t (length t - 1) 0) ≡ true → trim_end (take (length t - 1) t) ≡ trim_end t
-end_step t h e = rw (take-length t) at (sym (end_on t (length t) (omega arith) (omega arith) e))
 
 -- ---- a digit is no blank
 
@@ -65,7 +76,10 @@ start_kept [] e = refl
 start_kept (b ∷ t) e = rw e
 
 pub end_kept : (s : List ℕ) → 1 ≤ length s → blank (get_or s (length s - 1) 0) ≡ false → trim_end s ≡ s
-end_kept s h e = rw (take-length s) at (end_off s (length s) h (omega arith) e)
+end_kept s h e = rw whole (snoc_kept (take (length s - 1) s) (get_or s (length s - 1) 0) e)
+  where
+    whole : s ≡ take (length s - 1) s ++ (get_or s (length s - 1) 0 ∷ [])
+    whole = rw (take-length s) at (last s (length s) h (omega arith))
 
 -- ---- a text that need be trimmed at one end only, or at none
 
@@ -101,15 +115,3 @@ module _ (s : List ℕ) where
       by : (s : List ℕ) → length s ≡ 0 → s ≡ trimmed s
       by [] h = refl
       by (b ∷ t) h = absurd (omega arith)
-
--- ---- nothing is left of no text
-
-pub start_none : (t : List ℕ) → length t < 1 → t ≡ trim_start t
-unfolding trim_start
-start_none [] h = refl
-start_none (b ∷ t) h = absurd (omega arith)
-
-pub end_none : (t : List ℕ) → length t < 1 → t ≡ trim_end t
-unfolding trim_end
-end_none [] h = refl
-end_none (b ∷ t) h = absurd (omega arith)

@@ -1,8 +1,8 @@
 -- Tests of the code, on bytes less 48, are tests of the definitions, on bytes: for a sign, for a digit, and for two digits at a place.
 -- Assumes nothing.
-use Rattle.std.proofs.Common.{◌≡◌, ℕ, ◌+◌, ◌<◌, Bool, true, false, cond, not, ◌&&◌, eqb, ltb, leb, List, length, get_or, drop, sym, refl, ap, subst, ◌∙◌, Option, Some, None, add_assoc, arith, get_or-drop, ltb-false, ltb-true, eq-eqb, ne_eqb, eqb-true, leb-false, leb-true}
+use Rattle.std.proofs.Common.{◌≡◌, ℕ, ◌+◌, ◌<◌, Bool, true, false, cond, not, ◌&&◌, eqb, leb, List, length, get_or, drop, sym, refl, ap, subst, ◌∙◌, Option, Some, None, add_assoc, arith, get_or-drop, eq-eqb, ne_eqb, eqb-true, leb-false, leb-true}
 use lib.ListN.{get_or-eq_default}
-use Rattle.std.proofs.lemmas.Option.{cond_some, none-some}
+use Rattle.std.proofs.lemmas.Option.{cond_some}
 use borrow.Author.Tests.{eqb-false}
 use Rattle.text.specs.Digits.{is_digit, digit_of, two_digits, two_at}
 use Rattle.text.proofs.Bools.{and_left, and_right, and_false, by_test, within_is}
@@ -22,12 +22,6 @@ no_digit_test b fb =
     (λ t. rw (t, no_digit b (digit_of b) fb refl (leb-true 10 (digit_of b) t)))
     (λ t. rw (t, is_digit_lem b (digit_of b) fb refl (leb-false 10 (digit_of b) t)))
 
-pub digit_below : (b d : ℕ) → b < 256 → d ≡ digit_of b → ltb d 10 ≡ is_digit b
-digit_below b d fb e =
-    by_test (ltb d 10)
-    (λ t. rw (t, is_digit_lem b d fb e (ltb-true d 10 t)))
-    (λ t. rw (t, no_digit b d fb e (ltb-false d 10 t)))
-
 -- ---- two digits at a place
 
 -- their number, where both are digits
@@ -45,19 +39,12 @@ two_below t i e = omega (
 pub past_end : (t : List ℕ) (i : ℕ) → length t < i + 2 → two_digits t i ≡ false
 past_end t i h = rw (get_or-eq_default t 0 {n = i + 1} (omega arith)) (and_false (is_digit (get_or t i 0)))
 
-not_some : (b : Bool) (x : ℕ) → cond b (Some x) None ≡ None → b ≡ false
-not_some true x h = absurd (none-some x (sym h))
-not_some false x h = refl
-
 -- ---- place i of the rest from n on, which is place n + i, and what the code has of it
 
 two_from : (n : ℕ) (s : List ℕ) (i : ℕ) → two_or s (n + i) ≡ two_or (drop n s) i
 two_from n s i = rw (get_or-drop n s i 0, get_or-drop n s (i + 1) 0, ← add_assoc n i 1)
 
 module _ (n : ℕ) (s : List ℕ) (i : ℕ) {o : Option ℕ} (e : o ≡ two_or s (n + i)) where
-  pub two_none : o ≡ None → two_digits (drop n s) i ≡ false
-  two_none h = not_some (two_digits (drop n s) i) (two_at (drop n s) i) (sym (two_from n s i) ∙ sym e ∙ h)
-
   pub two_some : {x : ℕ} → o ≡ Some x → (two_digits (drop n s) i ≡ true) × (x ≡ two_at (drop n s) i) × (x < 100)
   two_some {x} h =
       let r = cond_some (two_digits (drop n s) i) (two_at (drop n s) i) x (sym (two_from n s i) ∙ sym e ∙ h) in
@@ -67,10 +54,7 @@ module _ (n : ℕ) (s : List ℕ) (i : ℕ) {v : ℕ} where
   pub sign_test : (k c : ℕ) → get_or s (n + i) 0 < 256 → c < 256 → k ≡ digit_of c → v ≡ digit_of (get_or s (n + i) 0) → eqb v k ≡ eqb (get_or (drop n s) i 0) c
   sign_test k c fb fc ek e = rw (e, get_or-drop n s i 0) (sign (get_or s (n + i) 0) k c fb fc ek)
 
-  pub digit_test : get_or s (n + i) 0 < 256 → v ≡ digit_of (get_or s (n + i) 0) → leb 10 v ≡ not (is_digit (get_or (drop n s) i 0))
-  digit_test fb e = rw (e, get_or-drop n s i 0) (no_digit_test (get_or s (n + i) 0) fb)
-
--- ---- all of five tests, and all of six
+-- ---- all of five tests
 
 pub all_five : (a b c d e : Bool) → a && (b && (c && (d && e))) ≡ true → (a ≡ true) × (b ≡ true) × (c ≡ true) × (d ≡ true) × (e ≡ true)
 all_five a b c d e h =
@@ -78,8 +62,3 @@ all_five a b c d e h =
     let h2 : c && (d && e) ≡ true = and_right b (c && (d && e)) h1 in
     let h3 : d && e ≡ true = and_right c (d && e) h2 in
     (and_left a (b && (c && (d && e))) h, and_left b (c && (d && e)) h1, and_left c (d && e) h2, and_left d e h3, and_right d e h3)
-
-pub all_six : (a b c d e f : Bool) → a && (b && (c && (d && (e && f)))) ≡ true → (a ≡ true) × (b ≡ true) × (c ≡ true) × (d ≡ true) × (e ≡ true) × (f ≡ true)
-all_six a b c d e f h =
-    let r = all_five b c d e f (and_right a (b && (c && (d && (e && f)))) h) in
-    (and_left a (b && (c && (d && (e && f)))) h, r.0, r.1, r.2, r.3, r.4)

@@ -2,7 +2,7 @@
 ghost use Rattle.std.specs.Prelude.{◌≡◌, ◌+◌, ◌≤◌, length, drop, if◌then◌else◌, Some, None};
 ghost use Rattle.text.specs.Digits.{digit_of, run, two_digits, two_at};
 
-// The separators of dates and times as digits: each byte less 48, wrapping.
+// The separators of dates and times as digits: each byte less 48, wrapping, in which form document 01 has them tested too.
 pub const HYPHEN: u8 = 253;
 
 pub const POINT: u8 = 254;
@@ -17,14 +17,15 @@ pub const CAPITAL_Z: u8 = 42;
 
 pub const SPACE: u8 = 240;
 
-// A byte less 48, wrapping: below 10 for a digit, at 10 or above for any other byte.
+// A byte less 48, wrapping: below 10 for a digit, at 10 or above for any other byte, the form that document 01 names in place of an Option.
 pub fn digit(b: u8) -> u8
     ensures { result ≡ digit_of b }
 {
     b.wrapping_sub(48)
 }
 
-// The number of the two digits at a place; none where one of them is no digit or past the end.
+// The number of the two digits at a place, which is given by value, since each reader knows its places; none where one of them is no digit or
+// past the end.
 pub fn two(s: &[u8], at: usize) -> Option<u8>
     ensures { result ≡ (if two_digits s.now at then Some (two_at s.now at) else None) }
 {
@@ -40,7 +41,7 @@ pub fn two(s: &[u8], at: usize) -> Option<u8>
     }
 }
 
-// How many digits a text begins with.
+// How many digits a text begins with. A `for`: of `position`, tried, the proof did not close.
 pub fn run_len(s: &[u8]) -> usize
     ensures { (result ≡ run s.now) × (result ≤ length s.now) }
 {

@@ -6,7 +6,7 @@ ghost use Rattle.std.specs.Prelude.{◌≡◌, slice_index};
 pub mod digits;
 pub mod trim;
 
-// The byte at i, and 0 past the end.
+// The byte at i, and 0 past the end, as `slice_index` of the definitions has it: no form has a byte 0, so that an Option would add a case.
 pub fn byte_at(s: &[u8], i: usize) -> u8
     ensures { result ≡ slice_index s.now i }
 {

@@ -23,23 +23,22 @@ pub enum Half {
 // * `6:00 pm`
 //
 // A text that is read is ASCII, so UTF-8 is looked at only where a text is refused.
+#[tactic(auto, using(crate::proofs::Agreement::read_utf8))]
 pub fn string_to_time_nanoseconds(s: &[u8]) -> Result<i64, Refusal>
     ensures { outcome result ≡ time_nanos s.now }
 {
-    match string_to_time(s) {
-        Some(t) => Ok(nanos_of_day(t)),
-        None => Err(Refusal::TimeOfDay.of(s)),
-    }
+    string_to_time(s)
+        .map(nanos_of_day)
+        .ok_or_else(|| Refusal::TimeOfDay.of(s))
 }
 
 pub fn nanos_of_day(t: NaiveTime) -> i64
     ensures { result ≡ pos (nanos_of_day t) }
 {
-    let secs = t.secs as u64;
-    let frac = t.frac as u64;
-    (secs * 1_000_000_000 + frac) as i64
+    i64::from(t.secs) * 1_000_000_000 + i64::from(t.frac)
 }
 
+#[tactic(auto, unfolding(crate::specs::Answer::time_of_day))]
 pub fn string_to_time(s: &[u8]) -> Option<NaiveTime>
     ensures { option_map nanos_of_day result ≡ time_of_day s.now }
 {

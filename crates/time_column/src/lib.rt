@@ -11,14 +11,15 @@ use refusal::Refusal;
 use std::marker::PhantomData;
 use text::trim::trim_pre_and_post_whitespace;
 use time::string_to_time_nanoseconds;
-use units::{Microsecond, Millisecond, Nanosecond, Second, TimeColumn};
+use time_unit::{Microsecond, Millisecond, Nanosecond, Second};
+use units::TimeColumn;
 
 pub mod units;
 
 // A time column, by its unit.
 #[derive(Clone, Copy)]
 pub struct TimeType<C> {
-    column: PhantomData<C>,
+    pub column: PhantomData<C>,
 }
 
 pub type Time64NanosecondType = TimeType<Nanosecond>;
@@ -45,7 +46,7 @@ impl<C: TimeColumn> TimeType<C> {
     }
 }
 
-// Nanoseconds of at most a day and a second, in the column's unit.
+// Nanoseconds of at most a day and a second, in the column's unit. `as`: of `from` the proof did not close.
 fn in_unit<C: TimeColumn>(nanos: i64) -> C::Native
     requires { mag nanos ≤ 86401000000000 }
     ensures { C.Native.int result ≡ quot_z nanos (pos C.NANOS) }

@@ -4,7 +4,6 @@ ghost use Rattle.refusal.specs.Outcome.{outcome};
 ghost use Rattle.stamp_text.specs.Answer.{is_ending, plain_moment, after_date, datetime, stamp_nanos};
 ghost use Rattle.timestamp.specs.Read.{moment_is};
 
-use calendar::YearStarts;
 use clock::NaiveTime;
 use datetime::{NaiveDateTime, to_timestamp_nanos};
 use refusal::Refusal;
@@ -20,21 +19,21 @@ use text::digits::{CAPITAL_T, SMALL_T, SPACE, digit};
 //
 // A text that is read is ASCII, so UTF-8 is looked at only where a text is refused.
 #[tactic(auto, using(stamp_text::proofs::Agreement::read_utf8))]
-pub fn string_to_datetime(starts: &YearStarts, s: &[u8]) -> Result<NaiveDateTime, Refusal>
+pub fn string_to_datetime(s: &[u8]) -> Result<NaiveDateTime, Refusal>
     ensures { moment_is result ≡ datetime s.now }
 {
-    // By `match`, since the closure of a `map_err` would need a contract of its own.
-    match plain(starts, s) {
+    // By `match`: of `map_err`, tried, the proof did not close.
+    match plain(s) {
         Ok(x) => Ok(x),
         Err(why) => Err(why.of(s)),
     }
 }
 
 #[tactic(auto, unfolding(stamp_text::specs::Answer::plain_moment))]
-fn plain(starts: &YearStarts, s: &[u8]) -> Result<NaiveDateTime, Refusal>
+fn plain(s: &[u8]) -> Result<NaiveDateTime, Refusal>
     ensures { moment_is result ≡ plain_moment s.now }
 {
-    let day = parser::date(starts, s).ok_or(Refusal::Date)?;
+    let day = parser::date(s).ok_or(Refusal::Date)?;
     after_date(s, day)
 }
 
@@ -66,13 +65,6 @@ fn is_ending(s: &[u8], end: usize) -> bool
 pub fn string_to_timestamp_nanos(s: &[u8]) -> Result<i64, Refusal>
     ensures { outcome result ≡ stamp_nanos s.now }
 {
-    string_to_timestamp_nanos_with(&YearStarts::new(), s)
-}
-
-// The same with the table of year starts lent.
-pub fn string_to_timestamp_nanos_with(starts: &YearStarts, s: &[u8]) -> Result<i64, Refusal>
-    ensures { outcome result ≡ stamp_nanos s.now }
-{
-    let x = string_to_datetime(starts, s)?;
+    let x = string_to_datetime(s)?;
     to_timestamp_nanos(x).ok_or(Refusal::Range)
 }

@@ -54,7 +54,8 @@ pub fn settled(
     }
 }
 
-// Units are marked as they come, so that one that comes again is told only where the whole text has been read.
+// Units are marked as they come, so that one that comes again is told only where the whole text has been read. A `loop`, which goes on from
+// where the reader stands, and counts nothing; two matches, since neither of one over `Ok(Piece::..)` nor of `map_err` the proof closed.
 pub fn parse_interval_components(
     value: &[u8],
     default_unit: IntervalUnit,

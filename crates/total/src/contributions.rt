@@ -14,7 +14,7 @@ use count::{Days, Months, Nanos};
 use number::checked;
 use unit::IntervalUnit;
 
-// A whole part times k and a part of a fraction, as a count of 32 bits.
+// A whole part times k and a part of a fraction, as a count of 32 bits. `as`: of `from` the proof did not close.
 pub fn count32(whole: i64, k: u32, part: i64) -> Option<i32>
     requires { nat_abs part ≤ 1200 }
     ensures { result ≡ fit 31 (whole *ℤ pos k +ℤ part) }
@@ -22,7 +22,8 @@ pub fn count32(whole: i64, k: u32, part: i64) -> Option<i32>
     checked::narrow(whole.checked_mul(k as i64)?.checked_add(part)?)
 }
 
-// The same as a count of 64 bits; the part has the sign of the whole.
+// The same as a count of 64 bits. Not one function over the width: here the product itself may pass it, so that the part must have the sign of
+// the whole.
 pub fn count64(whole: i64, k: u64, part: i64) -> Option<i64>
     requires { (k < 2 ^ 63) × SameSign whole part }
     ensures { result ≡ fit 63 (whole *ℤ pos k +ℤ part) }
@@ -30,12 +31,13 @@ pub fn count64(whole: i64, k: u64, part: i64) -> Option<i64>
     whole.checked_mul(k as i64)?.checked_add(part)
 }
 
-// A fraction times a over c, cut toward zero.
+// A fraction times a over c, cut toward zero. Factors go by themselves, as the table of `contribution` writes them in a row: a struct would be
+// made once for each unit and taken apart at once.
 pub fn cut(amount: IntervalAmount, a: u32, c: u64) -> i64
     requires { (a ≤ 6048) × (0 < c) × (c ≤ 10 ^ precision) }
     ensures { result ≡ quot_z (amount.frac *ℤ pos a) (pos c) }
 {
-    amount.frac * (a as i64) / (c as i64)
+    amount.frac * i64::from(a) / (c as i64)
 }
 
 // Months alone: the amount times k. A fraction counts ten to the limit, so that its factor is a over c.

@@ -127,11 +127,6 @@ no_front (b ∷ c ∷ d ∷ t) p e (suc (suc (suc n))) h = rw (no_kelvin b c d e
 
 -- ---- letters from a place on
 
-pub nothing_packed : (s : List ℕ) (from : ℕ) → Packed (take (from - from) (drop from s)) 0
-nothing_packed s from =
-    let e : from - from ≡ 0 = omega arith in
-    rw e (record { key_is = λ x. refl; letters_are = λ x. refl })
-
 key_least : (k : ℕ) (w : List ℕ) → k ≤ key_on k w
 unfolding key_on
 key_least k [] = omega arith

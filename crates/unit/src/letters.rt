@@ -1,4 +1,5 @@
-// The letters of a unit word, read at a place of a text as digits of base 32, and the unit by that number.
+// The letters of a unit word, read at a place of a text as digits of base 32, and the unit by that number: letters come in either case, and
+// U+212A is a k, so that patterns of bytes would want a copy of the word in lower case.
 ghost use Rattle.std.specs.Prelude.{◌≡◌, ◌≤◌, length};
 ghost use Rattle.unit.specs.Units.{spellings};
 ghost use Rattle.unit.specs.Keys.{front_of, LettersIs, by_key};
@@ -38,7 +39,8 @@ pub fn first_letter(text: &[u8]) -> Option<Letter>
     }
 }
 
-// The letters at a place, as many as a unit can have, packed as digits of base 32. A `while`, since U+212A is a letter of three bytes.
+// The letters at a place, as many as a unit can have, packed as digits of base 32, and the place where they end, which callers are told: it
+// goes up by one or, for U+212A, by three.
 pub fn letters_at(text: &[u8], from: usize) -> Letters
     requires { from ≤ length text.now }
     ensures { LettersIs text.now from result }

@@ -7,6 +7,7 @@ ghost use Rattle.unit.specs.Read.{word_is};
 use crate::{IntervalUnit, Word, letters};
 
 impl IntervalUnit {
+    // Rust's name; a method and no `FromStr`, whose error would say no more than None.
     pub fn from_str(word: &[u8]) -> Option<IntervalUnit>
         ensures { result ≡ unit_of word.now }
     {
@@ -18,7 +19,8 @@ impl IntervalUnit {
     }
 }
 
-// The length of the white space character at a place, 0 for none, which callers add to the place: nearly always one space.
+// The length of the white space character at a place, 0 for none, as the definition has it: nearly always one space. Text and place go side by
+// side, as `white_at` says.
 pub fn white_len(text: &[u8], at: usize) -> usize
     ensures { (result ≡ white_len (drop at text.now)) × (result ≤ length text.now - at) }
 {

@@ -1,14 +1,12 @@
 -- ASCII texts are well-formed UTF-8. Assumes nothing.
 use mathlib.Core.Path.{◌≡◌, refl, subst, ◌∙◌}
-use mathlib.Core.Bool.{true, false}
+use mathlib.Core.Bool.{true}
 use mathlib.Core.List.{List, [], ◌∷◌, ◌++◌}
-use Prim.Native.Nat.{ℕ, ◌+◌, ◌≤◌, ◌<◌}
+use Prim.Native.Nat.{ℕ, suc, ◌<◌}
 use native.Mathlib.Omega.{arith}
-use native.Mathlib.Numerals.{add-one}
 use lib.Dec.{ltb}
-use lib.ListN.{get_or, length, drop, drop_of_length-le}
-use lib.Seq.{drop-cons}
-use borrow.Author.Tests.{le-leb, lt-ltb, le-ltb, ltb-true}
+use borrow.Author.Tests.{le-leb, lt-ltb, ltb-true}
+use Rattle.std.specs.Str.{IsAscii}
 use Rattle.text.specs.Digits.{is_digit, digits}
 use Rattle.utf8.specs.Utf8.{encode, Utf8, scalar_then, well_formed, utf8, ascii}
 use Rattle.text.proofs.Bools.{and_left, and_right, within_under, within_is}
@@ -43,22 +41,17 @@ ascii_utf8 (b ∷ t) e =
     let h = ltb-true b 0x80 (and_left (ltb b 0x80) (ascii t) e) in
     lead 0x80 0xBF b t 0 0x80 0xBF (row_00 b (omega arith)) ∙ ascii_utf8 t (and_right (ltb b 0x80) (ascii t) e)
 
+-- what the library's `is_ascii` tells
+pub told : (t : List ℕ) → IsAscii t → utf8 t ≡ true
+unfolding ascii
+told t h = ascii_utf8 t (each t h)
+  where
+    each : (t : List ℕ) → IsAscii t → ascii t ≡ true
+    each [] h = refl
+    each (b ∷ t) h = ascii_cons b t (h 0) (each t (λ i. h (suc i)))
+
 -- an ASCII character, and what is well-formed
 pub ascii_then : {b : ℕ} {t : List ℕ} → b < 0x80 → Utf8 t → Utf8 (b ∷ t)
 ascii_then {b} {t} p u =
     let e : encode b ++ t ≡ b ∷ t = rw (lt-ltb b 0x80 p) in
     subst Utf8 e (scalar_then b (rw (le-leb b 0x10FFFF (omega arith), within_under 0xD800 b 0xDFFF (omega arith))) u)
-
--- ---- from the front, byte by byte
-
-pub ascii_on : (s : List ℕ) (i : ℕ) → i < length s → get_or s i 0 < 0x80 → ascii (drop i s) ≡ ascii (drop (i + 1) s)
-unfolding ascii
-ascii_on s i h b = rw (drop-cons s i 0 h, add-one, lt-ltb (get_or s i 0) 0x80 b)
-
-pub ascii_off : (s : List ℕ) (i : ℕ) → i < length s → 0x80 ≤ get_or s i 0 → ascii (drop i s) ≡ false
-unfolding ascii
-ascii_off s i h b = rw (drop-cons s i 0 h, le-ltb (get_or s i 0) 0x80 b)
-
-pub ascii_end : (s : List ℕ) (i : ℕ) → length s ≤ i → ascii (drop i s) ≡ true
-unfolding ascii
-ascii_end s i h = rw (drop_of_length-le s h)

@@ -3,7 +3,7 @@
 
 ghost use Rattle.std.specs.Prelude.{◌≡◌};
 ghost use Rattle.text.specs.Digits.{within};
-ghost use Rattle.utf8.specs.Utf8.{following, utf8, ascii};
+ghost use Rattle.utf8.specs.Utf8.{following, utf8};
 
 mod rows;
 
@@ -37,23 +37,13 @@ impl Follow {
     }
 }
 
-// Rust's `str::from_utf8`, as a test. Nearly all texts are ASCII, which is quicker to tell.
+// Rust's `str::from_utf8`, as a test, which document 01 has ported and proved like the readers. Nearly all texts are ASCII, which is quicker to
+// tell.
+#[tactic(auto, using(crate::proofs::Ascii::told))]
 pub fn is_utf8(s: &[u8]) -> bool
     ensures { result ≡ utf8 s.now }
 {
-    is_ascii(s) || is_well_formed(s)
-}
-
-// Rust's `is_ascii`; of an `all` with a closure the search did not find the proof.
-pub fn is_ascii(s: &[u8]) -> bool
-    ensures { result ≡ ascii s.now }
-{
-    for &b in s {
-        if 0x80 <= b {
-            return false;
-        }
-    }
-    true
+    s.is_ascii() || is_well_formed(s)
 }
 
 // Byte by byte: how many bytes of a character are still to come, and the range of the next.

@@ -4,8 +4,8 @@ ghost use Rattle.utf8.specs.Utf8.{table, follows};
 
 use crate::Follow;
 
-// What must follow the first byte of a character; after a byte that begins none, a byte from 1 to 0, which there is not, so that failure is
-// no state of its own in the loop over bytes.
+// What must follow the first byte of a character; after a byte that begins none, a byte from 1 to 0, which there is not, as the
+// definition has it: no Option, so that the loop has one state.
 pub fn follow(b: u8) -> Follow
     ensures { result ≡ follows table b }
 {

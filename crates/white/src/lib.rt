@@ -31,7 +31,7 @@ pub fn is_white3(b: u8, c: u8, d: u8) -> bool
     )
 }
 
-// The length of the white space character that three bytes begin with, 0 for none: a number of bytes to go on by, and no Option.
+// The length of the white space character that three bytes begin with, 0 for none, as the definition has it, to go on by.
 #[tactic(auto, unfolding(crate::specs::WhiteSpace::white_of))]
 pub fn white_of(b: u8, c: u8, d: u8) -> usize
     ensures { result ≡ white_of b c d }
@@ -47,7 +47,8 @@ pub fn white_of(b: u8, c: u8, d: u8) -> usize
     }
 }
 
-// The length of the white space character at a place, 0 for none, as `white_of` tells it.
+// The length of the white space character at a place, 0 for none, as `white_of` tells it. The place goes by value beside the text, as in all
+// that reads an interval: document 01's cursor, and the place is told where a text is refused.
 pub fn white_at(s: &[u8], at: usize) -> usize
     ensures { (result ≡ white_len (drop at s.now)) × (result ≤ length s.now - at) }
 {

@@ -7,18 +7,17 @@ use Rattle.std.specs.Prelude.{Option, None, Some}
 use Prim.Native.Nat.{ℕ, ◌<◌}
 use lib.Dec.{eqb, lit<}
 use native.Mathlib.Omega.{arith}
-use lib.ListN.{get_or, length, drop}
+use lib.ListN.{get_or, drop}
 use lib.Seq.{drop-drop, get_or-drop}
 use lib.IntN.{ℤ, pos}
-use Rattle.calendar.specs.Calendar.{civil}
 use Rattle.text.specs.Digits.{is_digit, worth, digit_of, two_digits, two_at}
 use Rattle.text.proofs.Logic.{none_some}
 use Rattle.text.proofs.Places.{not_sign}
-use Rattle.text.proofs.TwoDigits.{sign, two_or}
+use Rattle.text.proofs.TwoDigits.{sign}
 use Rattle.std.proofs.lemmas.Option.{cond_some}
 use Rattle.text.proofs.Bools.{and_right, and_false, by_test}
 use Rattle.clock.specs.Grammar.{no_digits}
-use Rattle.ymd.specs.Forms.{four_digits, four_at, compact_day, last_day, hyphen_day}
+use Rattle.ymd.specs.Forms.{four_digits, four_at, last_day, hyphen_day}
 use Rattle.ymd.specs.Helpers.{one_or_two}
 
 -- the second of two digits
@@ -48,16 +47,6 @@ module _ (f : ℕ → Option ℤ) (s : List ℕ) where
       let r : x ≡ (worth (get_or s 0 0), drop 1 s) = cc in
       rw (r, t, u))
       (λ u. none_some (sym (rw (t, u) at e))))
-
--- ---- yyyymmdd
-
-pub compact : (s : List ℕ) {y m d : ℕ} → length s ≡ 8 → Some y ≡ cond (four_digits s) (Some (four_at s)) None → Some m ≡ two_or s 4 → Some d ≡ two_or s 6 →
-    civil (pos y) m d ≡ compact_day s
-compact s {y} {m} {d} n ey em ed =
-    let a = cond_some (four_digits s) (four_at s) y (sym ey) in
-    let b = cond_some (two_digits s 4) (two_at s 4) m (sym em) in
-    let c = cond_some (two_digits s 6) (two_at s 6) d (sym ed) in
-    rw (n, a.0, b.0, c.0, a.1, b.1, c.1)
 
 -- ---- yyyy-m-d: f makes something of the month and of what is behind its hyphen
 

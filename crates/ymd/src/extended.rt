@@ -5,7 +5,7 @@ ghost use Rattle.ymd.specs.Forms.{to_hyphen, month_day};
 use crate::Ymd;
 use number::parse::parse;
 
-// The place of the first hyphen.
+// The place of the first hyphen: the library's `position`, in a line, as `lines` has it for any byte.
 pub fn find_hyphen(s: &[u8]) -> Option<usize>
     ensures { result ≡ (if ltb (to_hyphen s.now) (length s.now) then Some (to_hyphen s.now) else None) }
 {

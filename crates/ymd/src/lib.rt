@@ -4,7 +4,6 @@
 ghost use Rattle.std.specs.Prelude.{◌≡◌};
 ghost use Rattle.ymd.specs.Forms.{extended_ymd, short_day};
 
-use calendar::YearStarts;
 use text::byte_at;
 use text::digits::{HYPHEN, digit};
 
@@ -21,6 +20,7 @@ pub struct Ymd {
 
 // The signed form, ISO 8601's expanded representation, as `+10999-12-31`, `-0012-05-06`: the sign and the year up to the first hyphen, the
 // month up to the next, and the day, not yet whether the calendar has it.
+#[tactic(auto, using(text::proofs::Parts::rest), unfolding(crate::specs::Forms::extended_ymd))]
 pub fn parse_extended_ymd(s: &[u8]) -> Option<Ymd>
     ensures { result ≡ extended_ymd s.now }
 {
@@ -33,12 +33,12 @@ pub fn parse_extended_ymd(s: &[u8]) -> Option<Ymd>
 }
 
 // The unsigned forms of at most 10 bytes: `20200101`, `2020-01-01`, `2020-1-1`.
-pub fn short_day(starts: &YearStarts, s: &[u8]) -> Option<i64>
+pub fn short_day(s: &[u8]) -> Option<i64>
     ensures { result ≡ short_day s.now }
 {
     if digit(byte_at(s, 4)) == HYPHEN {
-        short::hyphen_day(starts, s)
+        short::hyphen_day(s)
     } else {
-        short::compact_day(starts, s)
+        short::compact_day(s)
     }
 }

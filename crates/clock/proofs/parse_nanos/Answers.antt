@@ -46,7 +46,7 @@ overflow_add-nanos c =
 pub loop-i-preserved : goal.loop-i-preserved
 loop-i-preserved c =
     let o = on c.args.s.now c.loop-i.i c.loop-i.nanos (c.type_inv.s c.loop-i.i).fits (rw c.byte_at.ensures at c.digit-d.ensures) c.loop-i.invariant.counted c.loop-i-test.true c.if-d-ge10.false in
-    record { counted = o.0; inside = omega (arith, o.1); run_so_far = omega (arith, o.2, c.loop-i.invariant.run_so_far) }
+    record { counted = rw c.from.ensures o.0; inside = omega (arith, o.1); run_so_far = omega (arith, o.2, c.loop-i.invariant.run_so_far) }
 
 pub returns : goal.returns
 returns c =

@@ -27,7 +27,7 @@ overflow_add-value c = let v = number_below c.loop-i.invariant in
     record { fits = omega arith }
 
 pub loop-i-preserved : goal.loop-i-preserved
-loop-i-preserved c = reading_next c.loop-i.invariant c.loop-i-test.true (c.type_inv.text c.loop-i.i).fits c.digit-d.ensures c.if-d-ge10.false c.if-scale-eq1.false
+loop-i-preserved c = rw c.from.ensures (reading_next c.loop-i.invariant c.loop-i-test.true (c.type_inv.text c.loop-i.i).fits c.digit-d.ensures c.if-d-ge10.false c.if-scale-eq1.false)
 
 pub overflow_mul-result-2 : goal.overflow_mul-result-2
 overflow_mul-result-2 c = let b = size_below c.loop-i.invariant in

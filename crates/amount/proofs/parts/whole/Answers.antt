@@ -16,7 +16,7 @@ returns-then-d-ge10 c = let s = c.args.text.now in
 pub loop-i-preserved : goal.loop-i-preserved
 loop-i-preserved c = let s = c.args.text.now in
     let b = (c.type_inv.text c.loop-i.i).fits in
-    (omega arith, rw c.push-value.ensures (sym (number_more s c.loop-i.i c.loop-i.value c.loop-i-test.true b c.digit-d.ensures c.if-d-ge10.false) ∙ c.loop-i.invariant.1), omega (arith, run_on s c.loop-i.i c.digit-d.result c.loop-i-test.true b c.digit-d.ensures c.if-d-ge10.false))
+    (omega arith, rw (c.push-value.ensures, c.from.ensures) (sym (number_more s c.loop-i.i c.loop-i.value c.loop-i-test.true b c.digit-d.ensures c.if-d-ge10.false) ∙ c.loop-i.invariant.1), omega (arith, run_on s c.loop-i.i c.digit-d.result c.loop-i-test.true b c.digit-d.ensures c.if-d-ge10.false))
 
 pub returns : goal.returns
 returns c = let s = c.args.text.now in

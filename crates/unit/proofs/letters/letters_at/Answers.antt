@@ -1,9 +1,6 @@
 use native.Mathlib.Omega.{arith}
-use Rattle.unit.proofs.Packing.{nothing_packed, ends_here, full_here, letter_more}
+use Rattle.unit.proofs.Packing.{ends_here, full_here, letter_more}
 use Rattle.unit.proofs.letters.letters_at.Goals as goal
-
-pub loop-letter-init : goal.loop-letter-init
-loop-letter-init c = (omega arith, omega arith, omega arith, nothing_packed c.args.text.now c.args.from)
 
 pub overflow_add-key : goal.overflow_add-key
 overflow_add-key c =

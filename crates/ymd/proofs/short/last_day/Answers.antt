@@ -5,10 +5,6 @@ use Rattle.calendar.specs.Calendar.{civil}
 use Rattle.ymd.proofs.Shapes.{ended_here}
 use Rattle.ymd.proofs.short.last_day.Goals as goal
 
-pub returns-then-no_digits : goal.returns-then-no_digits
-returns-then-no_digits c = c.of_fields.ensures ∙
-    rw (sym c.no_digits.ensures ∙ c.if-no_digits.true) at (ended_here (civil (pos c.args.year) c.args.month) c.args.s.now c.in_ok-day.ensures)
-
 pub returns-else-no_digits : goal.returns-else-no_digits
 returns-else-no_digits c =
     rw (sym c.no_digits.ensures ∙ c.if-no_digits.false) at (ended_here (civil (pos c.args.year) c.args.month) c.args.s.now c.in_ok-day.ensures)
