@@ -17,7 +17,7 @@ pub struct Year {
 }
 
 // chrono's `NaiveDate::from_ymd_opt` and the days to it, for every year of 32 signed bits: the day number, counted from 1970-01-01,
-// which may need more than 32 bits. None where the calendar has no such day. `as`: of `from` the proof did not close.
+// which may need more than 32 bits. None where the calendar has no such day. `as`: with `from` the proof wants an equation more for each.
 pub fn days_from_ymd(year: i32, month: u32, day_of_month: u32) -> Option<i64>
     ensures { result ≡ civil year month day_of_month }
 {

@@ -19,7 +19,7 @@ pub struct Fields {
     pub second: u8,
 }
 
-// Parses a date of the form `1997-01-31`. `as`: of `from` the proof did not close.
+// Parses a date of the form `1997-01-31`. `as`: with `from` the proof wants an equation more for each.
 #[tactic(auto, unfolding(stamp_text::specs::Answer::day_of))]
 pub fn date(s: &[u8]) -> Option<i64>
     ensures { result ≡ day_of s.now }

@@ -46,7 +46,7 @@ impl<C: TimeColumn> TimeType<C> {
     }
 }
 
-// Nanoseconds of at most a day and a second, in the column's unit. `as`: of `from` the proof did not close.
+// Nanoseconds of at most a day and a second, in the column's unit. `as`: with `from` the proof wants an equation more for each.
 fn in_unit<C: TimeColumn>(nanos: i64) -> C::Native
     requires { mag nanos ≤ 86401000000000 }
     ensures { C.Native.int result ≡ quot_z nanos (pos C.NANOS) }

@@ -14,7 +14,7 @@ use count::{Days, Months, Nanos};
 use number::checked;
 use unit::IntervalUnit;
 
-// A whole part times k and a part of a fraction, as a count of 32 bits. `as`: of `from` the proof did not close.
+// A whole part times k and a part of a fraction, as a count of 32 bits. `as`: with `from` the proof wants an equation more for each.
 pub fn count32(whole: i64, k: u32, part: i64) -> Option<i32>
     requires { nat_abs part ≤ 1200 }
     ensures { result ≡ fit 31 (whole *ℤ pos k +ℤ part) }

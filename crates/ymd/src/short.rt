@@ -42,7 +42,7 @@ fn last_day(year: u16, month: u8, s: &[u8]) -> Option<i64>
     }
 }
 
-// `as`: of `from` the proof did not close.
+// `as`: with `from` the proof wants an equation more for each.
 fn of_fields(year: u16, month: u8, day: u8) -> Option<i64>
     ensures { result ≡ civil (pos year) month day }
 {
