@@ -1,5 +1,6 @@
 -- What a C caller finds after a call: a status, and the cells that it lent. The refusals' numbers are document 01's. Assumes nothing.
-use Rattle.std.specs.Prelude.{◌≡◌, List, ℕ, ℤ, Option, None, Some, Result}
+use Rattle.std.specs.Prelude.{◌≡◌, List, ℕ, ℤ, Option, None, Some, Result, length}
+use Rattle.buffer.specs.Written.{in_room, length_of, left_in}
 use Rattle.parse_column.specs.Read.{whole_of}
 use Rattle.parse_column.specs.declared.ColumnRefusal.{ColumnRefusal}
 use Rattle.refusal.specs.Outcome.{Outcome, accepted, refused}
@@ -28,3 +29,8 @@ ToldColumn w status i j before after = ToldAt w status i j × (after ≡ cells_a
 -- what a column's answer makes of status and index, whatever the values
 abbrev pub Tells : Result (Unit {0}) ColumnRefusal → ℕ → ℕ → ℕ → Type 0
 Tells r status before after = (zs : List ℤ) → ToldAt (whole_of r zs) status before after
+
+-- of a printing: accepted, status 0, the cell `length` holds how many bytes were written, and the buffer begins with the text; refused, 14 among
+-- the numbers, the cell and the buffer are as they were
+abbrev pub ToldText : Outcome (List ℕ) → ℕ → ℕ → ℕ → List ℕ → List ℕ → Type 0
+ToldText text status m n before after = Told (length_of (in_room (length before) text)) status m n × (after ≡ left_in (in_room (length before) text) before)

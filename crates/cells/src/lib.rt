@@ -8,10 +8,12 @@ ghost use Rattle.rule.specs.Contribution.{counts};
 ghost use Rattle.place.specs.Read.{refusal_of, place_in};
 ghost use Rattle.interval.specs.Read.{year_month_outcome, year_month_place, day_time_outcome, day_time_place};
 ghost use Rattle.total.specs.Read.{interval_outcome, place_read};
+ghost use Rattle.listing.specs.Read.{length_said, place_told};
 ghost use Rattle.cells.specs.Cells.{Told, ToldPlace, Tells};
 
 use count::Months;
 use interval::IntervalDayTime;
+use listing::ListRefusal;
 use parse_column::ColumnRefusal;
 use place::IntervalRefusal;
 use refusal::Refusal;
@@ -88,6 +90,24 @@ pub fn put_interval(
             0
         }
         Err(reason) => put_place(reason, place),
+    }
+}
+
+// A listing's answer: how many bytes were written.
+pub fn put_listed(r: Result<usize, ListRefusal>, length: &mut usize, place: &mut usize) -> u8
+    ensures { Told (length_said r) result length.old length.new × ToldPlace (place_told r) place.old place.new }
+{
+    match r {
+        Ok(written) => {
+            *length = written;
+            0
+        }
+        Err(why) => {
+            if let Some(at) = why.place() {
+                *place = at;
+            }
+            why.number()
+        }
     }
 }
 

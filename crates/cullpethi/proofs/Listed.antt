@@ -29,7 +29,7 @@ use Rattle.number.specs.Widths.{in_signed, floor}
 use Rattle.refusal.specs.Attempts.{or_else, divided}
 use Rattle.refusal.specs.Outcome.{Outcome, accepted, refused, because, and_then, in_utf8, number_of}
 use Rattle.refusal.specs.declared.Refusal.{Refusal}
-use Rattle.refusal.specs.declared.Refusal.TheVariants.{NotUtf8, Date, Separator, Time, Tail, Range, TimeOfDay, Interval, RepeatedUnit, Overflow, Narrowed, SiteStamp, Column as OfColumn}
+use Rattle.refusal.specs.declared.Refusal.TheVariants.{NotUtf8, Date, Separator, Time, Tail, Range, TimeOfDay, Interval, RepeatedUnit, Overflow, Narrowed, SiteStamp, Column as OfColumn, Buffer as OfBuffer}
 use Rattle.text.specs.Trim.{trimmed}
 use Rattle.utf8.specs.Utf8.{utf8}
 use Rattle.time.specs.Answer.{time_of_day, time_nanos}
@@ -209,6 +209,7 @@ at_least_1 Overflow = lit≤ tt
 at_least_1 Narrowed = lit≤ tt
 at_least_1 SiteStamp = lit≤ tt
 at_least_1 OfColumn = lit≤ tt
+at_least_1 OfBuffer = lit≤ tt
 
 -- the numbers of the list are 1 to 12
 pub range : {n : ℕ} → OnList n → (1 ≤ n) × (n ≤ 12)

@@ -7,6 +7,7 @@ use Rattle.unit.specs.declared.IntervalUnit.{IntervalUnit}
 use Rattle.rule.specs.Contribution.{Counts}
 use Rattle.rule.specs.Answer.{month_day_nano}
 use Rattle.place.specs.Where.{place}
+use Rattle.listing.specs.Lines.{listing}
 
 -- 255 where a number is no unit's
 abbrev pub in_unit : Option IntervalUnit → List ℕ → Outcome Counts
@@ -17,3 +18,8 @@ in_unit None t = refused 255
 abbrev pub place_in_unit : Option IntervalUnit → List ℕ → Option ℕ
 place_in_unit (Some u) t = place precision u t
 place_in_unit None t = None
+
+-- the listing of a text; 255 where a number is no unit's
+abbrev pub listing_in_unit : Option IntervalUnit → List ℕ → Outcome (List ℕ)
+listing_in_unit (Some u) t = listing precision u t
+listing_in_unit None t = refused 255

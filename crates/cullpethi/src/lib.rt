@@ -14,18 +14,23 @@ ghost use Rattle.site.specs.Site.{site_nanos};
 ghost use Rattle.unit.specs.Units.{unit_numbered};
 ghost use Rattle.unit.specs.declared.IntervalUnit.TheVariants.{Year, Month, Day};
 ghost use Rattle.place.specs.Where.{place as place_of};
-ghost use Rattle.cells.specs.Cells.{Told, ToldPlace, ToldColumn};
+ghost use Rattle.interval_text.specs.Text.{interval_text};
+ghost use Rattle.refusal.specs.Outcome.{accepted};
+ghost use Rattle.cells.specs.Cells.{Told, ToldPlace, ToldText, ToldColumn};
 ghost use Rattle.parse_column.specs.Numbers.{column_numbered};
 ghost use Rattle.cullpethi.specs.ColumnNumber.{in_column};
-ghost use Rattle.cullpethi.specs.DefaultUnit.{in_unit, place_in_unit};
+ghost use Rattle.cullpethi.specs.DefaultUnit.{in_unit, place_in_unit, listing_in_unit};
 ghost use Rattle.std.specs.Prelude.{length};
 
-use cells::{put, put_day_time, put_index, put_interval, put_months};
+use cells::{put, put_day_time, put_index, put_interval, put_listed, put_months};
+use count::{Days, Months, Nanos};
 use date_column::{Date32Type, Date64Type};
 use interval::{
     parse_interval_day_time, parse_interval_month_day_nano, parse_interval_month_day_nano_config,
     parse_interval_year_month,
 };
+use interval_text::write_interval;
+use listing::list_interval;
 use parse_column::numbers::column_numbered;
 use parse_column::parse_column;
 use site::site_stamp;
@@ -38,7 +43,7 @@ use time_column::{
     Time32MillisecondType, Time32SecondType, Time64MicrosecondType, Time64NanosecondType,
 };
 use timestamp::stamp::string_to_timestamp_nanos;
-use total::IntervalParseConfig;
+use total::{Interval, IntervalParseConfig};
 use unit::numbers::unit_numbered;
 
 // A stamp, in nanoseconds since 1970-01-01.
@@ -184,6 +189,44 @@ pub fn cullpethi_parse_interval_month_day_nano_config(
             nanos,
             place,
         ),
+        None => 255,
+    }
+}
+
+// An interval as text, into a buffer: `length` is how many bytes were written; 14 where the buffer is too short.
+pub fn cullpethi_write_interval(
+    months: i32,
+    days: i32,
+    nanos: i64,
+    buffer: &mut [u8],
+    length: &mut usize,
+) -> u8
+    ensures { ToldText (accepted (interval_text (counts months days nanos))) result length.old length.new buffer.old buffer.new }
+{
+    let interval = Interval {
+        months: Months(months),
+        days: Days(days),
+        nanos: Nanos(nanos),
+    };
+    put(write_interval(interval, buffer), length)
+}
+
+// The components of an interval text, a line each, with a default unit by its number: 255 where there is no such unit, then the reader's refusal,
+// then 14.
+pub fn cullpethi_list_interval(
+    text: &[u8],
+    default_unit: u8,
+    buffer: &mut [u8],
+    length: &mut usize,
+    place: &mut usize,
+) -> u8
+    ensures { ToldText (listing_in_unit (unit_numbered default_unit) text.now) result length.old length.new buffer.old buffer.new × ToldPlace (place_in_unit (unit_numbered default_unit) text.now) place.old place.new }
+{
+    match unit_numbered(default_unit) {
+        Some(unit) => {
+            let config = IntervalParseConfig::new(unit);
+            put_listed(list_interval(text, config, buffer), length, place)
+        }
         None => 255,
     }
 }

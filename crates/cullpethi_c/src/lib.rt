@@ -13,10 +13,12 @@ ghost use Rattle.site.specs.Site.{site_nanos};
 ghost use Rattle.unit.specs.Units.{unit_numbered};
 ghost use Rattle.unit.specs.declared.IntervalUnit.TheVariants.{Year, Month, Day};
 ghost use Rattle.place.specs.Where.{place as place_of};
-ghost use Rattle.cells.specs.Cells.{Told, ToldPlace, ToldColumn};
+ghost use Rattle.interval_text.specs.Text.{interval_text};
+ghost use Rattle.refusal.specs.Outcome.{accepted};
+ghost use Rattle.cells.specs.Cells.{Told, ToldPlace, ToldText, ToldColumn};
 ghost use Rattle.parse_column.specs.Numbers.{column_numbered};
 ghost use Rattle.cullpethi.specs.ColumnNumber.{in_column};
-ghost use Rattle.cullpethi.specs.DefaultUnit.{in_unit, place_in_unit};
+ghost use Rattle.cullpethi.specs.DefaultUnit.{in_unit, place_in_unit, listing_in_unit};
 ghost use Rattle.std.specs.Prelude.{length};
 
 // A stamp, in nanoseconds since 1970-01-01.
@@ -182,6 +184,35 @@ pub extern "C" fn cullpethi_parse_interval_month_day_nano_config(
         nanos,
         place,
     )
+}
+
+// An interval as text, into a buffer: `length` is how many bytes were written; 14 where the buffer is too short.
+#[unsafe(no_mangle)]
+pub extern "C" fn cullpethi_write_interval(
+    months: i32,
+    days: i32,
+    nanos: i64,
+    buffer: &mut [u8],
+    length: &mut usize,
+) -> u8
+    ensures { ToldText (accepted (interval_text (counts months days nanos))) result length.old length.new buffer.old buffer.new }
+{
+    cullpethi::cullpethi_write_interval(months, days, nanos, buffer, length)
+}
+
+// The components of an interval text, a line each, with a default unit by its number: 255 where there is no such unit, then the reader's refusal,
+// then 14.
+#[unsafe(no_mangle)]
+pub extern "C" fn cullpethi_list_interval(
+    text: &[u8],
+    default_unit: u8,
+    buffer: &mut [u8],
+    length: &mut usize,
+    place: &mut usize,
+) -> u8
+    ensures { ToldText (listing_in_unit (unit_numbered default_unit) text.now) result length.old length.new buffer.old buffer.new × ToldPlace (place_in_unit (unit_numbered default_unit) text.now) place.old place.new }
+{
+    cullpethi::cullpethi_list_interval(text, default_unit, buffer, length, place)
 }
 
 // A whole column by its number, 0 TimestampNanosecond to 9 Date64: each text by the column's reader, its value into its cell, or the first

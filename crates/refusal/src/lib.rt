@@ -33,6 +33,8 @@ pub enum Refusal {
     SiteStamp = 12,
     // The ends of a column's texts fall or pass the bytes, or there are fewer cells than ends.
     Column = 13,
+    // The buffer is too short.
+    Buffer = 14,
 }
 
 impl Refusal {

@@ -11,7 +11,7 @@ use lib.Signed.{lt_z}
 use borrow.Author.Tests.{lt-ltb, le-ltb, leb-true, leb-false}
 use Rattle.text.proofs.Bools.{by_test}
 use Rattle.io.specs.Digits.{hex_digit_ascii, last_digits, IsDigitCount}
-use Rattle.room.specs.Decimal.{decimal_in, decimal, signed_text}
+use Rattle.decimal.specs.Decimal.{decimal_in, decimal, signed_text}
 
 last : (n : ℕ) → hex_digit_ascii (n % 10) ≡ 48 + n % 10
 last n = rw (lt-ltb (n % 10) 10 (omega arith))
@@ -33,16 +33,15 @@ shown (suc f) (suc (suc j)) n h w =
     let t : last_digits 10 (suc j) (n / 10) ≡ decimal_in f (n / 10) = shown f (suc j) (n / 10) (omega arith) (omega arith, omega arith, λ g. rw b (omega arith)) in
     rw (le-ltb n 10 (omega arith), last n) (ap (λ (r : List ℕ). r ++ ((48 + n % 10) ∷ [])) t)
 
-at_most_twenty : (k n : ℕ) → n < 2 ^ 64 → IsDigitCount 10 1 n k → k ≤ 20
-at_most_twenty k n h w =
-    by_test (leb k 20) (leb-true k 20)
-    (λ t. let l : 20 < k = leb-false k 20 t in
-    let m : 10 ^ 20 ≤ 10 ^ (k - 1) = pow-le-pow_right {n = 10} (omega arith) {i = 20} {j = k - 1} (omega arith) in
-    absurd (omega (arith, w.2 (omega arith))))
+less : (k : ℕ) → k < 10 ^ k
+less zero = omega (arith, pow-zero 10)
+less (suc k) = omega (arith, pow-succ' 10 k, less k)
 
 pub as_decimal : (k n : ℕ) → n < 2 ^ 64 → IsDigitCount 10 1 n k → last_digits 10 k n ≡ decimal n
 unfolding decimal
-as_decimal k n h w = shown 20 k n (at_most_twenty k n h w) w
+as_decimal k n h w =
+    by_test (leb k 1) (λ t. let l : k ≤ 1 = leb-true k 1 t in shown (suc n) k n (omega arith) w)
+    (λ t. let l : 1 < k = leb-false k 1 t in shown (suc n) k n (omega (arith, w.2 l, less (k - 1))) w)
 
 -- the sign and the size
 pub signed : (z : ℤ) → signed_text z ≡ cond (lt_z z (pos 0)) (0x2D ∷ decimal (nat_abs z)) (decimal (nat_abs z))

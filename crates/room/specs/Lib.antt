@@ -1,3 +1,2 @@
 -- What the contracts of `room` cite.
 pub mod Room
-pub mod Decimal

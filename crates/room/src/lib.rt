@@ -3,7 +3,7 @@
 #![tactic(auto)]
 
 ghost use Rattle.std.specs.Prelude.{◌≡◌, ◌==◌, [], ◌≤◌, List, ℕ, length, take};
-ghost use Rattle.room.specs.Decimal.{decimal, signed_text};
+ghost use Rattle.decimal.specs.Decimal.{decimal, signed_text};
 ghost use Rattle.room.specs.Room.{appended};
 
 use std::marker::Model;

@@ -1,0 +1,88 @@
+-- The digits of a number: those of one below ten, and of any other those of its tenth and one more. Assumes nothing.
+use mathlib.Core.Path.{◌≡◌, refl, sym, ap, ◌∙◌}
+use mathlib.Core.Bool.{true, false, true≢false}
+use mathlib.Core.List.{List, [], ◌∷◌, ◌++◌}
+use Prim.Native.Nat.{ℕ, zero, suc, ◌+◌, ◌*◌, ◌-◌, ◌/◌, ◌%◌, ◌^◌, ◌≤◌, ◌<◌}
+use native.Mathlib.Omega.{arith}
+use native.Mathlib.Nat.{pow-succ'}
+use lib.Dec.{ltb}
+use lib.ListN.{length}
+use lib.IntN.{ℤ, pos, negsuc, nat_abs}
+use lib.Signed.{lt_z}
+use borrow.Author.Tests.{lt-ltb, le-ltb, ltb-true, ltb-false}
+use Rattle.std.proofs.lemmas.List.{length-append}
+use Rattle.text.proofs.Bools.{by_test}
+use Rattle.buffer.specs.Buffer.{Put}
+use Rattle.buffer.proofs.Puts.{then}
+use Rattle.decimal.specs.Decimal.{decimal_in, decimal, signed_text}
+
+one_in : (k n : ℕ) → n < 10 → decimal_in (suc k) n ≡ (48 + n) ∷ []
+unfolding decimal_in
+one_in k n h = rw (lt-ltb n 10 h)
+
+more_in : (k n : ℕ) → 10 ≤ n → decimal_in (suc k) n ≡ decimal_in k (n / 10) ++ ((48 + n % 10) ∷ [])
+unfolding decimal_in
+more_in k n h = rw (le-ltb n 10 h)
+
+-- any count that is large enough serves
+pub enough : (f g n : ℕ) → n < f → n < g → decimal_in f n ≡ decimal_in g n
+enough zero g n h k = absurd (omega arith)
+enough (suc f) zero n h k = absurd (omega arith)
+enough (suc f) (suc g) n h k =
+    by_test (ltb n 10)
+    (λ t. let l : n < 10 = ltb-true n 10 t in one_in f n l ∙ sym (one_in g n l))
+    (λ t.
+    let l : 10 ≤ n = ltb-false n 10 t in
+    more_in f n l ∙ ap (λ (d : List ℕ). d ++ ((48 + n % 10) ∷ [])) (enough f g (n / 10) (omega arith) (omega arith)) ∙ sym (more_in g n l))
+
+-- the digit of a number below ten
+pub one : (n : ℕ) → n < 10 → decimal n ≡ (48 + n) ∷ []
+unfolding decimal
+one n h = one_in n n h
+
+-- the digits of the tenth, and the last
+pub more : (n : ℕ) → 10 ≤ n → decimal n ≡ decimal (n / 10) ++ ((48 + n % 10) ∷ [])
+unfolding decimal
+more n h = more_in n n h ∙ ap (λ (d : List ℕ). d ++ ((48 + n % 10) ∷ [])) (enough n (suc (n / 10)) (n / 10) (omega arith) (omega arith))
+
+-- what holds of each number and its digits: it does of one below ten, and of any other if it does of its tenth
+pub each : (P : ℕ → List ℕ → Type 0) → ((n : ℕ) → n < 10 → P n ((48 + n) ∷ []))
+    → ((n : ℕ) (d : List ℕ) → 10 ≤ n → P (n / 10) d → P n (d ++ ((48 + n % 10) ∷ []))) → (n : ℕ) → P n (decimal n)
+each P p q n = below (suc n) n (omega arith)
+  where
+    below : (f n : ℕ) → n < f → P n (decimal n)
+    below zero n h = absurd (omega arith)
+    below (suc f) n h =
+        by_test (ltb n 10)
+        (λ t. let l : n < 10 = ltb-true n 10 t in rw (one n l) (p n l))
+        (λ t. let l : 10 ≤ n = ltb-false n 10 t in rw (more n l) (q n (decimal (n / 10)) l (below f (n / 10) (omega arith))))
+
+-- a number below 10^k has at most k digits
+pub most : (n k : ℕ) → 1 ≤ k → n < 10 ^ k → length (decimal n) ≤ k
+most = each (λ (n : ℕ) (d : List ℕ). (k : ℕ) → 1 ≤ k → n < 10 ^ k → length d ≤ k) (λ n h k l m. l) grown
+  where
+    grown : (n : ℕ) (d : List ℕ) → 10 ≤ n → ((k : ℕ) → 1 ≤ k → n / 10 < 10 ^ k → length d ≤ k) → (k : ℕ) → 1 ≤ k → n < 10 ^ k
+        → length (d ++ ((48 + n % 10) ∷ [])) ≤ k
+    grown n d h f zero l m = absurd (omega arith)
+    grown n d h f (suc zero) l m = absurd (omega (arith, pow-succ' 10 0))
+    grown n d h f (suc (suc k)) l m = omega (arith, length-append d ((48 + n % 10) ∷ []), f (suc k) (omega arith) (omega (arith, pow-succ' 10 (suc k))))
+
+-- ---- what the code writes
+
+pub one_put : {n d at e : ℕ} {a b : List ℕ} → n < 10 → d ≡ 48 + n % 10 → Put at (d ∷ []) a b e → Put at (decimal n) a b e
+one_put {n} {d} {at} {e} {a} {b} h q p = let r : 48 + n ≡ d = omega arith in rw (one n h, r) p
+
+pub more_put : {n d at m e : ℕ} {a b c : List ℕ} → 10 ≤ n → d ≡ 48 + n % 10 → Put at (decimal (n / 10)) a b m → Put m (d ∷ []) b c e → Put at (decimal n) a c e
+more_put {n} {d} h q p r = rw (more n h, ← q) (then p r)
+
+-- r is z as a local holds it
+pub plain_put : {r : ℤ} (z : ℤ) {n at e : ℕ} {a b : List ℕ} → r ≡ z → lt_z r (pos 0) ≡ false → n ≡ nat_abs r → Put at (decimal n) a b e → Put at (signed_text z) a b e
+unfolding signed_text
+plain_put (pos k) {n} s h q p = let m : n ≡ k = q ∙ ap nat_abs s in rw (m) at p
+plain_put (negsuc k) s h q p = absurd (true≢false (rw (s) at h))
+
+pub minus_put : {r : ℤ} (z : ℤ) {n at j e : ℕ} {a b c : List ℕ} → r ≡ z → lt_z r (pos 0) ≡ true → n ≡ nat_abs r → Put at (0x2D ∷ []) a b j → Put j (decimal n) b c e
+    → Put at (signed_text z) a c e
+unfolding signed_text
+minus_put (pos k) s h q p t = absurd (omega (arith, ltb-true k 0 (rw (s) at h)))
+minus_put (negsuc k) {n} s h q p t = let m : n ≡ suc k = q ∙ ap nat_abs s in then p (rw (m) at t)

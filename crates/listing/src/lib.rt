@@ -1,0 +1,64 @@
+// The components of an interval text, listed one a line.
+#![tactic(auto)]
+
+ghost use Rattle.std.specs.Prelude.{◌≡◌};
+ghost use Rattle.amount.specs.Grammar.{precision};
+ghost use Rattle.buffer.specs.Written.{Written};
+ghost use Rattle.place.specs.Where.{place};
+ghost use Rattle.listing.specs.Lines.{listing};
+ghost use Rattle.listing.specs.Read.{number_said, place_said, length_said, place_told};
+
+mod lines;
+mod names;
+
+use place::IntervalRefusal;
+use refusal::Refusal;
+use total::{Interval, IntervalParseConfig};
+
+// Why a text is not listed: the reader refuses it, or the buffer is too short.
+#[derive(Clone, Copy, Debug, PartialEq, Eq)]
+pub enum ListRefusal {
+    Text(IntervalRefusal),
+    Buffer,
+}
+
+impl ListRefusal {
+    // Its number in document 01's list and document 02.
+    pub fn number(self) -> u8
+        ensures { result ≡ number_said self }
+    {
+        match self {
+            ListRefusal::Text(why) => why.number(),
+            ListRefusal::Buffer => Refusal::Buffer.number(),
+        }
+    }
+
+    // Its place, where it has one.
+    pub fn place(self) -> Option<usize>
+        ensures { result ≡ place_said self }
+    {
+        match self {
+            ListRefusal::Text(why) => why.place(),
+            ListRefusal::Buffer => None,
+        }
+    }
+}
+
+// A line for each component of a text that the reader of months, days and nanoseconds accepts, written into a buffer, and their length; the rest
+// of the buffer is kept. Where the text is refused or the buffer too short, nothing is written.
+pub fn list_interval(
+    text: &[u8],
+    config: IntervalParseConfig,
+    buffer: &mut [u8],
+) -> Result<usize, ListRefusal>
+    ensures written { Written (listing precision config.default_unit text.now) (length_said result) buffer.old buffer.new }
+    ensures place { place_told result ≡ place precision config.default_unit text.now }
+{
+    Interval::parse(text, config).map_err(ListRefusal::Text)?;
+    // Into no room at all: the length is known before a byte is written.
+    let len = lines::put_lines(text, config.default_unit, &mut []);
+    if buffer.len() < len {
+        return Err(ListRefusal::Buffer);
+    }
+    Ok(lines::put_lines(text, config.default_unit, buffer))
+}
