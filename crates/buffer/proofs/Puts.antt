@@ -5,11 +5,13 @@ use Prim.Native.Nat.{ℕ, zero, suc, ◌+◌, ◌-◌, ◌^◌, ◌≤◌, ◌<�
 use native.Mathlib.Omega.{arith}
 use lib.Dec.{leb}
 use lib.ListN.{length, take, drop}
-use borrow.Author.Tests.{leb-true, leb-false}
+use borrow.Author.Tests.{leb-true, leb-false, le-leb, lt-leb}
 use borrow.Rule.Slice.PartMut.{put_mid}
 use Rattle.std.proofs.lemmas.List.{length-append}
 use Rattle.text.proofs.Bools.{by_test}
+use Rattle.refusal.specs.Outcome.{accepted, refused}
 use Rattle.buffer.specs.Buffer.{overwritten, Put}
+use Rattle.buffer.specs.Written.{Written}
 
 -- nothing changes the length
 pub same_length : (at : ℕ) (w b : List ℕ) → length (overwritten at w b) ≡ length b
@@ -86,6 +88,17 @@ front (c ∷ w) (x ∷ a) l = ap (λ (r : List ℕ). c ∷ r) (front w a (omega 
 -- bytes in a buffer that has room for them
 pub whole : {w a b : List ℕ} {q : ℕ} → Put 0 w a b q → length w ≤ length a → (b ≡ w ++ drop (length w) a) × (q ≡ length w)
 whole {w} {a} m l = (m.bytes_are ∙ front w a l, omega (arith, m.end_is, m.in_64_bits))
+
+-- ---- a text that is put into no room, which counts it, and then into a buffer
+
+pub written : {w a b c : List ℕ} {m n : ℕ} → Put 0 w [] c m → Put 0 w a b n → length w < 2 ^ 64 - 1 → m ≤ length a → Written (accepted w) (accepted n) a b
+written {w} {a} p q s h =
+    let l : length w ≤ length a = omega (arith, p.end_is) in
+    let r = whole q l in
+    record { says = rw (le-leb (length w) (length a) l) (ap accepted r.1); leaves = rw (le-leb (length w) (length a) l) (r.0) }
+
+pub too_long : {w a c : List ℕ} {m : ℕ} → Put 0 w [] c m → length a < m → Written (accepted w) (refused 14) a a
+too_long {w} {a} p h = let l : length a < length w = omega (arith, p.end_is) in record { says = rw (lt-leb (length w) (length a) l) refl; leaves = rw (lt-leb (length w) (length a) l) refl }
 
 -- ---- what `put` does
 

@@ -4,13 +4,14 @@ use mathlib.Core.Bool.{true, false, true≢false}
 use mathlib.Core.List.{List, [], ◌∷◌, ◌++◌}
 use Prim.Native.Nat.{ℕ, zero, suc, ◌+◌, ◌*◌, ◌-◌, ◌/◌, ◌%◌, ◌^◌, ◌≤◌, ◌<◌}
 use native.Mathlib.Omega.{arith}
-use native.Mathlib.Nat.{pow-succ'}
+use native.Mathlib.Nat.{pow-succ', pow-zero, mul-le-mul_right}
 use lib.Dec.{ltb}
 use lib.ListN.{length}
 use lib.IntN.{ℤ, pos, negsuc, nat_abs}
 use lib.Signed.{lt_z}
 use borrow.Author.Tests.{lt-ltb, le-ltb, ltb-true, ltb-false}
 use Rattle.std.proofs.lemmas.List.{length-append}
+use Rattle.std.proofs.lemmas.Nat.{pow-add}
 use Rattle.text.proofs.Bools.{by_test}
 use Rattle.buffer.specs.Buffer.{Put}
 use Rattle.buffer.proofs.Puts.{then}
@@ -24,26 +25,50 @@ more_in : (k n : ℕ) → 10 ≤ n → decimal_in (suc k) n ≡ decimal_in k (n 
 unfolding decimal_in
 more_in k n h = rw (le-ltb n 10 h)
 
--- any count that is large enough serves
-pub enough : (f g n : ℕ) → n < f → n < g → decimal_in f n ≡ decimal_in g n
-enough zero g n h k = absurd (omega arith)
-enough (suc f) zero n h k = absurd (omega arith)
-enough (suc f) (suc g) n h k =
+-- any count of digits that is large enough serves
+pub enough : (f g n : ℕ) → 1 ≤ f → 1 ≤ g → n < 10 ^ f → n < 10 ^ g → decimal_in f n ≡ decimal_in g n
+enough zero g n i j h k = absurd (omega arith)
+enough (suc f) zero n i j h k = absurd (omega arith)
+enough (suc f) (suc g) n i j h k =
     by_test (ltb n 10)
     (λ t. let l : n < 10 = ltb-true n 10 t in one_in f n l ∙ sym (one_in g n l))
     (λ t.
     let l : 10 ≤ n = ltb-false n 10 t in
-    more_in f n l ∙ ap (λ (d : List ℕ). d ++ ((48 + n % 10) ∷ [])) (enough f g (n / 10) (omega arith) (omega arith)) ∙ sym (more_in g n l))
+    let a : 10 ^ suc f ≡ 10 * 10 ^ f = pow-succ' 10 f in
+    let b : 10 ^ suc g ≡ 10 * 10 ^ g = pow-succ' 10 g in
+    more_in f n l ∙ ap (λ (d : List ℕ). d ++ ((48 + n % 10) ∷ []))
+    (enough f g (n / 10) (some f (omega arith)) (some g (omega arith)) (omega arith) (omega arith)) ∙ sym (more_in g n l))
+  where
+    some : (f : ℕ) → 1 < 10 ^ f → 1 ≤ f
+    some zero h = absurd (omega (arith, pow-zero 10))
+    some (suc f) h = omega arith
+
+-- and that of the definition is
+counted : (n : ℕ) → n < 10 ^ (20 + n / 10 ^ 20)
+counted n =
+    let p : 10 ^ (20 + n / 10 ^ 20) ≡ 10 ^ 20 * 10 ^ (n / 10 ^ 20) = pow-add 10 20 (n / 10 ^ 20) in
+    let m : suc (n / 10 ^ 20) * 10 ^ 20 ≤ 10 ^ (n / 10 ^ 20) * 10 ^ 20 = mul-le-mul_right (10 ^ 20) (grows (n / 10 ^ 20)) in
+    omega (arith, p, m)
+  where
+    grows : (k : ℕ) → suc k ≤ 10 ^ k
+    grows zero = omega (arith, pow-zero 10)
+    grows (suc k) = omega (arith, pow-succ' 10 k, grows k)
+
+-- a number below 10^k, in at most k digits
+pub in_digits : (k n : ℕ) → 1 ≤ k → n < 10 ^ k → decimal n ≡ decimal_in k n
+unfolding decimal
+in_digits k n h l = enough (20 + n / 10 ^ 20) k n (omega arith) h (counted n) l
 
 -- the digit of a number below ten
 pub one : (n : ℕ) → n < 10 → decimal n ≡ (48 + n) ∷ []
-unfolding decimal
-one n h = one_in n n h
+one n h = in_digits 1 n (omega arith) (omega (arith, pow-succ' 10 0, pow-zero 10)) ∙ one_in 0 n h
 
 -- the digits of the tenth, and the last
 pub more : (n : ℕ) → 10 ≤ n → decimal n ≡ decimal (n / 10) ++ ((48 + n % 10) ∷ [])
-unfolding decimal
-more n h = more_in n n h ∙ ap (λ (d : List ℕ). d ++ ((48 + n % 10) ∷ [])) (enough n (suc (n / 10)) (n / 10) (omega arith) (omega arith))
+more n h =
+    let k = 20 + n / 10 ^ 20 in
+    in_digits (suc k) n (omega arith) (omega (arith, counted n, pow-succ' 10 k)) ∙ more_in k n h
+    ∙ ap (λ (d : List ℕ). d ++ ((48 + n % 10) ∷ [])) (sym (in_digits k (n / 10) (omega arith) (omega (arith, counted n))))
 
 -- what holds of each number and its digits: it does of one below ten, and of any other if it does of its tenth
 pub each : (P : ℕ → List ℕ → Type 0) → ((n : ℕ) → n < 10 → P n ((48 + n) ∷ []))
@@ -66,6 +91,12 @@ most = each (λ (n : ℕ) (d : List ℕ). (k : ℕ) → 1 ≤ k → n < 10 ^ k �
     grown n d h f zero l m = absurd (omega arith)
     grown n d h f (suc zero) l m = absurd (omega (arith, pow-succ' 10 0))
     grown n d h f (suc (suc k)) l m = omega (arith, length-append d ((48 + n % 10) ∷ []), f (suc k) (omega arith) (omega (arith, pow-succ' 10 (suc k))))
+
+-- a signed number of a size below 10^k has at most k digits, and a minus
+pub signed_most : (z : ℤ) (k : ℕ) → 1 ≤ k → nat_abs z < 10 ^ k → length (signed_text z) ≤ suc k
+unfolding signed_text
+signed_most (pos n) k h l = omega (arith, most n k h l)
+signed_most (negsuc n) k h l = omega (arith, most (suc n) k h l)
 
 -- ---- what the code writes
 

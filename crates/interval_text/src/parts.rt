@@ -1,21 +1,26 @@
 // The parts of an interval's text.
-ghost use Rattle.std.specs.Prelude.{cond, [], ◌++◌, eqb, nat_abs};
+ghost use Rattle.std.specs.Prelude.{◌≡◌};
 ghost use Rattle.buffer.specs.Buffer.{Put};
-ghost use Rattle.decimal.specs.Decimal.{signed_text};
-ghost use Rattle.interval_text.specs.Found.{after_space};
+ghost use Rattle.interval_text.specs.Found.{space_at, part_at};
 
 use buffer::put;
 use decimal::put_number;
 
-// A part, an amount and its word, put behind those before it, if there are any: a space comes between. One that is zero is left out.
+// The space before a part: none at the text's front.
+pub fn space(at: usize) -> &'static [u8]
+    ensures { result.now ≡ space_at at }
+{
+    if at == 0 { b"" } else { b" " }
+}
+
+// A part, an amount and its word, put behind those before it. One that is zero is left out.
 pub fn put_part(z: i64, word: &[u8], buffer: &mut [u8], at: usize) -> usize
-    ensures { Put at (cond (eqb (nat_abs z) 0) [] (after_space at (signed_text z ++ word.now))) buffer.old buffer.new result }
+    ensures { Put at (part_at at z word.now) buffer.old buffer.new result }
 {
     if z == 0 {
         return at;
     }
-    let space: &[u8] = if at == 0 { b"" } else { b" " };
-    let at = put(space, buffer, at);
-    let at = put_number(z, buffer, at);
-    put(word, buffer, at)
+    let from = put(space(at), buffer, at);
+    let end = put_number(z, buffer, from);
+    put(word, buffer, end)
 }

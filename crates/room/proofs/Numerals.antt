@@ -1,5 +1,5 @@
 -- The fewest digits that hold a number are the digits that its tenth has, and its last. Assumes nothing.
-use mathlib.Core.Path.{◌≡◌, refl, ◌∙◌, ap}
+use mathlib.Core.Path.{◌≡◌, refl, sym, ◌∙◌, ap}
 use mathlib.Core.Bool.{cond}
 use mathlib.Core.List.{List, [], ◌∷◌, ◌++◌}
 use Prim.Native.Nat.{ℕ, zero, suc, ◌+◌, ◌*◌, ◌-◌, ◌/◌, ◌%◌, ◌^◌, ◌≤◌, ◌<◌}
@@ -11,6 +11,7 @@ use lib.Signed.{lt_z}
 use borrow.Author.Tests.{lt-ltb, le-ltb, leb-true, leb-false}
 use Rattle.text.proofs.Bools.{by_test}
 use Rattle.io.specs.Digits.{hex_digit_ascii, last_digits, IsDigitCount}
+use Rattle.decimal.proofs.Recursion.{in_digits}
 use Rattle.decimal.specs.Decimal.{decimal_in, decimal, signed_text}
 
 last : (n : ℕ) → hex_digit_ascii (n % 10) ≡ 48 + n % 10
@@ -33,15 +34,8 @@ shown (suc f) (suc (suc j)) n h w =
     let t : last_digits 10 (suc j) (n / 10) ≡ decimal_in f (n / 10) = shown f (suc j) (n / 10) (omega arith) (omega arith, omega arith, λ g. rw b (omega arith)) in
     rw (le-ltb n 10 (omega arith), last n) (ap (λ (r : List ℕ). r ++ ((48 + n % 10) ∷ [])) t)
 
-less : (k : ℕ) → k < 10 ^ k
-less zero = omega (arith, pow-zero 10)
-less (suc k) = omega (arith, pow-succ' 10 k, less k)
-
 pub as_decimal : (k n : ℕ) → n < 2 ^ 64 → IsDigitCount 10 1 n k → last_digits 10 k n ≡ decimal n
-unfolding decimal
-as_decimal k n h w =
-    by_test (leb k 1) (λ t. let l : k ≤ 1 = leb-true k 1 t in shown (suc n) k n (omega arith) w)
-    (λ t. let l : 1 < k = leb-false k 1 t in shown (suc n) k n (omega (arith, w.2 l, less (k - 1))) w)
+as_decimal k n h w = shown k k n (omega arith) w ∙ sym (in_digits k n w.0 w.1)
 
 -- the sign and the size
 pub signed : (z : ℤ) → signed_text z ≡ cond (lt_z z (pos 0)) (0x2D ∷ decimal (nat_abs z)) (decimal (nat_abs z))
