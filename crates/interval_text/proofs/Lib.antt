@@ -1,3 +1,4 @@
 -- Laws that belong to no one function.
 pub mod Spacing
 pub mod Longest
+pub mod ReadsBack
