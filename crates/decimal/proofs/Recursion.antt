@@ -1,6 +1,6 @@
 -- The digits of a number: those of one below ten, and of any other those of its tenth and one more. Assumes nothing.
 use mathlib.Core.Path.{◌≡◌, refl, sym, ap, ◌∙◌}
-use mathlib.Core.Bool.{true, false, true≢false}
+use mathlib.Core.Bool.{Bool, true, false, true≢false}
 use mathlib.Core.List.{List, [], ◌∷◌, ◌++◌}
 use Prim.Native.Nat.{ℕ, zero, suc, ◌+◌, ◌*◌, ◌-◌, ◌/◌, ◌%◌, ◌^◌, ◌≤◌, ◌<◌}
 use native.Mathlib.Omega.{arith}
@@ -13,6 +13,7 @@ use borrow.Author.Tests.{lt-ltb, le-ltb, ltb-true, ltb-false}
 use Rattle.std.proofs.lemmas.List.{length-append}
 use Rattle.std.proofs.lemmas.Nat.{pow-add}
 use Rattle.text.proofs.Bools.{by_test}
+use Rattle.number.specs.Widths.{in_signed}
 use Rattle.buffer.specs.Buffer.{Put}
 use Rattle.buffer.proofs.Puts.{then}
 use Rattle.decimal.specs.Decimal.{decimal_in, decimal, signed_text}
@@ -97,6 +98,11 @@ pub signed_most : (z : ℤ) (k : ℕ) → 1 ≤ k → nat_abs z < 10 ^ k → len
 unfolding signed_text
 signed_most (pos n) k h l = omega (arith, most n k h l)
 signed_most (negsuc n) k h l = omega (arith, most (suc n) k h l)
+
+-- such as one of j + 1 signed bits, where 2^j is below 10^k
+pub in_width : (j k : ℕ) (z : ℤ) → 1 ≤ k → 2 ^ j < 10 ^ k → in_signed j z ≡ true → length (signed_text z) ≤ suc k
+in_width j k (pos n) h l e = signed_most (pos n) k h (omega (arith, ltb-true n (2 ^ j) e))
+in_width j k (negsuc n) h l e = signed_most (negsuc n) k h (omega (arith, ltb-true n (2 ^ j) e))
 
 -- ---- what the code writes
 

@@ -18,14 +18,10 @@ use Rattle.text.proofs.Logic.{both}
 use Rattle.utf8.specs.Quoted.{bytes}
 use Rattle.number.specs.Widths.{in_signed}
 use Rattle.decimal.specs.Decimal.{decimal_in, decimal, signed_text}
-use Rattle.decimal.proofs.Recursion.{signed_most}
+use Rattle.decimal.proofs.Recursion.{in_width}
 use Rattle.rule.specs.Contribution.{Counts, counts, fits}
 use Rattle.interval_text.specs.Text.{part_before, parts, spaced, interval_text}
 use Rattle.interval_text.proofs.Spacing.{tail}
-
-size : (k : ℕ) (z : ℤ) → in_signed k z ≡ true → nat_abs z ≤ 2 ^ k
-size k (pos n) e = omega (arith, ltb-true n (2 ^ k) e)
-size k (negsuc n) e = omega (arith, ltb-true n (2 ^ k) e)
 
 -- a part, with the space before it
 one_more : (z : ℤ) (word : String) (l : List (List ℕ)) (k : ℕ) → length (signed_text z) ≤ k
@@ -48,9 +44,9 @@ unfolding fits interval_text parts tail
 longest c e =
     let f = both (in_signed 31 c.months) (in_signed 31 c.days && in_signed 63 c.nanos) e in
     let g = both (in_signed 31 c.days) (in_signed 63 c.nanos) f.1 in
-    let m = signed_most c.months 10 (omega arith) (omega (arith, size 31 c.months f.0)) in
-    let d = signed_most c.days 10 (omega arith) (omega (arith, size 31 c.days g.0)) in
-    let n = signed_most c.nanos 19 (omega arith) (omega (arith, size 63 c.nanos g.1)) in
+    let m = in_width 31 10 c.months (omega arith) (omega arith) f.0 in
+    let d = in_width 31 10 c.days (omega arith) (omega arith) g.0 in
+    let n = in_width 63 19 c.nanos (omega arith) (omega arith) g.1 in
     from_tail (parts c) (omega (arith, one_more c.months "months" (part_before c.days "days" (part_before c.nanos "nanoseconds" [])) 11 m,
     one_more c.days "days" (part_before c.nanos "nanoseconds" []) 11 d, one_more c.nanos "nanoseconds" [] 20 n))
 

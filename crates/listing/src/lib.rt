@@ -54,7 +54,9 @@ pub fn list_interval(
     ensures written { Written (listing precision config.default_unit text.now) (length_said result) buffer.old buffer.new }
     ensures place { place_told result ≡ place precision config.default_unit text.now }
 {
-    Interval::parse(text, config).map_err(ListRefusal::Text)?;
+    if let Err(why) = Interval::parse(text, config) {
+        return Err(ListRefusal::Text(why));
+    }
     // Into no room at all: the length is known before a byte is written.
     let len = lines::put_lines(text, config.default_unit, &mut []);
     if buffer.len() < len {

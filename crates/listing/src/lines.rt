@@ -37,9 +37,10 @@ pub fn put_lines(text: &[u8], default_unit: IntervalUnit, buffer: &mut [u8]) -> 
     loop {
         let taken = component::component(text, place);
         place = taken.at;
-        // A text that is accepted has no bad piece.
-        let Ok(piece) = taken.piece else {
-            return at;
+        let piece = match taken.piece {
+            Ok(piece) => piece,
+            // Never in a text that is accepted.
+            Err(_) => return at,
         };
         match piece {
             Piece::Last(amount, word) => {
