@@ -102,12 +102,8 @@ pub fn put_listed(r: Result<usize, ListRefusal>, length: &mut usize, place: &mut
             *length = written;
             0
         }
-        Err(why) => {
-            if let Some(at) = why.place() {
-                *place = at;
-            }
-            why.number()
-        }
+        Err(ListRefusal::Text(why)) => put_place(why, place),
+        Err(ListRefusal::Buffer) => Refusal::Buffer.number(),
     }
 }
 

@@ -222,12 +222,11 @@ pub fn cullpethi_list_interval(
 ) -> u8
     ensures { ToldText (listing_in_unit (unit_numbered default_unit) text.now) result length.old length.new buffer.old buffer.new × ToldPlace (place_in_unit (unit_numbered default_unit) text.now) place.old place.new }
 {
-    match unit_numbered(default_unit) {
-        Some(unit) => {
-            let config = IntervalParseConfig::new(unit);
-            put_listed(list_interval(text, config, buffer), length, place)
-        }
-        None => 255,
+    if let Some(unit) = unit_numbered(default_unit) {
+        let config = IntervalParseConfig::new(unit);
+        put_listed(list_interval(text, config, buffer), length, place)
+    } else {
+        255
     }
 }
 

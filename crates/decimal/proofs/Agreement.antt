@@ -152,7 +152,7 @@ agrees z t = (computes, λ e. rw (e) (related z))
 
 -- ---- read back
 
-written_digits : {d : List ℕ} → NoZeroInFront d → Digits d
+pub written_digits : {d : List ℕ} → NoZeroInFront d → Digits d
 written_digits (leading {b} {d} p q) = let w = within_is 0x31 b 0x39 p in one_or_more (within_yes 0x30 b 0x39 (omega (arith, w.0)) w.1) q
 
 -- the text is a numeral of the reader's grammar, which writes the number

@@ -29,7 +29,7 @@ use Rattle.component.specs.Grammar.{Component, component, Complete, apart, Divid
 use Rattle.component.specs.Spelled.{spelled, unit_for}
 use Rattle.decimal.specs.Decimal.{decimal_in, decimal, signed_text}
 use Rattle.decimal.specs.NumberText.{NoZeroInFront, leading, NumberText, zero_digit, plain, minus}
-use Rattle.decimal.proofs.Agreement.{agrees}
+use Rattle.decimal.proofs.Agreement.{agrees, written_digits}
 use Rattle.rule.specs.Contribution.{Counts, counts, whole_times, frac_times, contribution, fits, plus, zeros}
 use Rattle.rule.specs.Meaning.{Runs, done, add, Means, totalled}
 use Rattle.rule.specs.Answer.{has, twice, month_day_nano}
@@ -41,9 +41,7 @@ use Rattle.interval_text.specs.Text.{part_before, parts, spaced, interval_text}
 
 whole_digits : {neg : Bool} {d : List ℕ} → NoZeroInFront d → in_signed 63 (signed neg (value 0 d)) ≡ true → Whole neg d
 unfolding whole_fits
-whole_digits (leading {b} {d} p q) h =
-    let w = within_is 0x31 b 0x39 p in
-    record { written = one_or_more (within_yes 0x30 b 0x39 (omega (arith, w.0)) w.1) q; fitting = h }
+whole_digits p h = record { written = written_digits p; fitting = h }
 
 of_text : {n : ℕ} {z : ℤ} {t : List ℕ} → in_signed 63 z ≡ true → NumberText z t → Amount n t (valued z (pos 0))
 unfolding value digits whole_fits

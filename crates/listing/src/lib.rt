@@ -6,42 +6,19 @@ ghost use Rattle.amount.specs.Grammar.{precision};
 ghost use Rattle.buffer.specs.Written.{Written};
 ghost use Rattle.place.specs.Where.{place};
 ghost use Rattle.listing.specs.Lines.{listing};
-ghost use Rattle.listing.specs.Read.{number_said, place_said, length_said, place_told};
+ghost use Rattle.listing.specs.Read.{length_said, place_told};
 
 mod lines;
 mod names;
 
 use place::IntervalRefusal;
-use refusal::Refusal;
 use total::{Interval, IntervalParseConfig};
 
-// Why a text is not listed: the reader refuses it, or the buffer is too short.
+// Why a text is not listed: the reader's refusal, or 14, that the buffer is too short.
 #[derive(Clone, Copy, Debug, PartialEq, Eq)]
 pub enum ListRefusal {
     Text(IntervalRefusal),
     Buffer,
-}
-
-impl ListRefusal {
-    // Its number in document 01's list and document 02.
-    pub fn number(self) -> u8
-        ensures { result ≡ number_said self }
-    {
-        match self {
-            ListRefusal::Text(why) => why.number(),
-            ListRefusal::Buffer => Refusal::Buffer.number(),
-        }
-    }
-
-    // Its place, where it has one.
-    pub fn place(self) -> Option<usize>
-        ensures { result ≡ place_said self }
-    {
-        match self {
-            ListRefusal::Text(why) => why.place(),
-            ListRefusal::Buffer => None,
-        }
-    }
 }
 
 // A line for each component of a text that the reader of months, days and nanoseconds accepts, written into a buffer, and their length; the rest
