@@ -2,3 +2,4 @@
 pub mod Spacing
 pub mod Longest
 pub mod ReadsBack
+pub mod Readings

@@ -4,3 +4,4 @@ pub mod Ahead
 pub mod Twelve
 pub mod Agreement
 pub mod Longest
+pub mod Readings
