@@ -1,11 +1,12 @@
 // The answer of each reader, with the unit of its counts behind it, which is why the columns stand here one by one.
 use crate::names::Reader;
-use crate::show::{Out, Outcome, count, interval};
+use crate::show::{Out, Outcome, count, interval, listed};
 use date_column::{Date32Type, Date64Type};
 use interval::{
     parse_interval_day_time, parse_interval_month_day_nano, parse_interval_month_day_nano_config,
     parse_interval_year_month,
 };
+use listing::list_interval;
 use site::site_stamp;
 use stamp_column::{
     TimestampMicrosecondType, TimestampMillisecondType, TimestampNanosecondType,
@@ -17,6 +18,7 @@ use time_column::{
 };
 use timestamp::stamp::string_to_timestamp_nanos;
 use total::IntervalParseConfig;
+use unit::IntervalUnit;
 
 const NANOS: &[u8] = b" nanoseconds";
 
@@ -48,5 +50,14 @@ pub fn of(reader: Reader, text: &[u8], out: &mut Out) -> Outcome {
         }
         Reader::IntervalYearMonth => interval(parse_interval_year_month(text), out),
         Reader::IntervalDayTime => interval(parse_interval_day_time(text), out),
+        Reader::List => listing(text, IntervalUnit::Month, out),
+        Reader::ListIn(unit) => listing(text, unit, out),
     }
+}
+
+// The longest listing has 12 lines of at most 66 bytes.
+fn listing(text: &[u8], default_unit: IntervalUnit, out: &mut Out) -> Outcome {
+    let mut buffer = [0u8; 792];
+    let config = IntervalParseConfig::new(default_unit);
+    listed(list_interval(text, config, &mut buffer), &buffer, out)
 }

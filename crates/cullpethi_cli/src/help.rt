@@ -1,5 +1,5 @@
 // What the program says of itself.
-use crate::names::Reader;
+use crate::names::{Reader, Task};
 use crate::output::{Failure, Streams};
 use crate::show::{Out, refusal};
 use crate::{Status, output};
@@ -15,7 +15,8 @@ pub fn names(to: Streams) {
     let names =
         b"the readers are string_to_timestamp_nanos, site_stamp, timestamp_nanosecond, timestamp_microsecond, \
         timestamp_millisecond, timestamp_second, string_to_time_nanoseconds, time64_nanosecond, time64_microsecond, \
-        time32_millisecond, time32_second, date32, date64, interval, interval_year_month, interval_day_time";
+        time32_millisecond, time32_second, date32, date64, interval, interval_year_month, interval_day_time, \
+        list; print_interval prints";
     output::said(to, &[names]);
 }
 
@@ -26,17 +27,21 @@ pub fn all(to: Streams) -> Result<Status, Failure> {
     times(&mut out);
     dates(&mut out);
     intervals(&mut out);
+    printing(&mut out);
     refusals(&mut out);
     out.put(
-        b"\nExit status: 0 each text was read, 1 a text was refused or too long, 2 bad usage or no input or output.\n",
+        b"\nExit status: 0 each text was read, or the interval printed, 1 a text was refused or too long, 2 bad usage or no input or output.\n",
     );
     told(to, out.as_bytes())
 }
 
-// What one reader reads.
-pub fn one(to: Streams, reader: Reader) -> Result<Status, Failure> {
+// What one reader reads, or what is printed.
+pub fn one(to: Streams, task: Task) -> Result<Status, Failure> {
     let mut out = Room::new();
-    group(reader, &mut out);
+    match task {
+        Task::Read(reader) => group(reader, &mut out),
+        Task::PrintInterval => printing(&mut out),
+    }
     out.put(b"\nThe other readers, the options and the refusals: cullpethi --help\n");
     told(to, out.as_bytes())
 }
@@ -64,7 +69,9 @@ fn group(reader: Reader, out: &mut Out) {
         Reader::Interval
         | Reader::IntervalIn(_)
         | Reader::IntervalYearMonth
-        | Reader::IntervalDayTime => intervals(out),
+        | Reader::IntervalDayTime
+        | Reader::List
+        | Reader::ListIn(_) => intervals(out),
     }
 }
 
@@ -73,16 +80,18 @@ fn usage(out: &mut Out) {
         b"cullpethi READER TEXT       read a text
 cullpethi READER [-]        read each line of standard input, of at most 65536 bytes
 cullpethi READER --help     what the reader reads
+cullpethi print_interval MONTHS DAYS NANOSECONDS
+                            print an interval
 ",
     );
     out.put(
         b"
-  --default UNIT            interval alone: the unit of a last amount that names none; also --default=UNIT
+  --default UNIT            interval and list alone: the unit of a last amount that names none; also --default=UNIT
   --number                  the line's number in front of each answer
   -h, --help                this page
   -V, --version             the version
-  --                        every word behind it is the reader or the text
-Any other word that begins with a minus is a text: -5, '-.5 days'. A line ends at its line feed: a carriage return belongs to the text.
+  --                        every word behind it is the reader, the text or a number
+Any other word that begins with a minus is a text or a number: -5, '-.5 days'. A line ends at its line feed: a carriage return belongs to the text.
 ",
     );
 }
@@ -146,15 +155,27 @@ Intervals, and the unit of a last amount that names none:
   interval                    in months, days and nanoseconds; month, or as --default says
   interval_year_month         in months; year
   interval_day_time           in days and milliseconds; day
+  list                        its components, a line each, in order; month, or as --default says
 ",
     );
     out.put(
         b"    AMOUNT UNIT, once or more, with one white space character between two of them, and one or none between an amount and
     its unit. AMOUNT: a minus or nothing, then digits, or digits, a point and 1 to 15 digits, or a point and 1 to 15 digits.
     No unit comes twice.
+    A line of list is unit=NAME whole=W frac=F: the unit, the amount's whole part, its fraction with the sign, times ten to the 15th.
 ",
     );
     units(out);
+}
+
+fn printing(out: &mut Out) {
+    out.put(
+        b"
+An interval as text:
+  print_interval              its months, days and nanoseconds, whole numbers of 32, 32 and 64 bits, which are arguments;
+                              standard input is not read. A zero is left out, and all zero is 0 months
+",
+    );
 }
 
 fn units(out: &mut Out) {
@@ -181,7 +202,7 @@ fn refusals(out: &mut Out) {
         b"\nA text that is refused has no value, but a number and what it means; 8, 9 and 10 tell the byte of the text, from 0, where that
 begins, and a text that was an argument, or whose answer goes to a terminal, is shown with a caret below that place:\n",
     );
-    // Refusal::Column is of whole columns, which this program does not read.
+    // Refusal::Column is of whole columns, which this program does not read, and Refusal::Buffer of a buffer too short, which it does not lend.
     for why in [
         Refusal::NotUtf8,
         Refusal::Date,

@@ -9,8 +9,8 @@ use crate::{Asked, Status, caret, output, show};
 use lines::each::{EachLine, each_line};
 use room::Room;
 
-// From so many bytes on answers are written: the room has 65,536, and no answer has 512.
-const MANY: usize = 65024;
+// From so many bytes on answers are written: the room has 65,536, and no answer has 1,024.
+const MANY: usize = 64512;
 
 #[derive(Drop)]
 struct Lines {

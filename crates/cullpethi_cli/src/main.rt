@@ -1,20 +1,22 @@
-// The command line: reads a text, or each line of standard input, by the reader that is named, and writes the counts or the refusal.
+// The command line: reads a text, or each line of standard input, by the reader that is named, and writes the counts or the refusal; or prints
+// an interval.
 #![tactic(auto)]
 
-use names::Reader;
+use names::{Reader, Task};
 use output::{Failure, Streams};
 use room::Room;
 use show::Outcome;
 use std::env::Env;
 use std::io::IsTerminal;
 use std::process::ExitCode;
-use words::{Source, Words};
+use words::{Source, THREE_NUMBERS, Words};
 
 mod answer;
 mod caret;
 mod help;
 mod input;
 mod names;
+mod numbers;
 mod output;
 mod show;
 mod words;
@@ -62,8 +64,10 @@ fn command(env: &impl Env, to: Streams) -> Result<Status, Failure> {
     if words.version {
         return help::version(to);
     }
-    match words.reader {
-        Some(reader) => with_reader(env, to, words, reader),
+    match words.task {
+        Some(task) if words.help => help::one(to, task),
+        Some(Task::Read(reader)) => with_reader(env, to, words, reader),
+        Some(Task::PrintInterval) => printed(to, words),
         None if words.help => help::all(to),
         None => Err(output::bad_usage(to, b"no reader is named")),
     }
@@ -75,9 +79,6 @@ fn with_reader(
     words: Words,
     reader: Reader,
 ) -> Result<Status, Failure> {
-    if words.help {
-        return help::one(to, reader);
-    }
     let asked = Asked {
         reader: words.with_default(reader),
         number: words.number,
@@ -87,6 +88,16 @@ fn with_reader(
         Some(Source::Argument(at)) => one_text(env, to, at, asked),
         Some(Source::Input) | None => input::each(to, asked),
     }
+}
+
+fn printed(to: Streams, words: Words) -> Result<Status, Failure> {
+    let Some(interval) = words.numbers.interval() else {
+        return Err(output::bad_usage(to, THREE_NUMBERS));
+    };
+    let mut out = Room::new();
+    let outcome = show::printed(interval, words.number, &mut out);
+    output::written(to, out.as_bytes())?;
+    Ok(outcome.status())
 }
 
 // The argument is there, so all that can be wrong is its length.

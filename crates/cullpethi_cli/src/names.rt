@@ -1,6 +1,23 @@
 // What the words of the command line name.
 use unit::IntervalUnit;
 
+// What is done.
+#[derive(Clone, Copy)]
+pub enum Task {
+    Read(Reader),
+    // Three numbers are printed as an interval.
+    PrintInterval,
+}
+
+impl Task {
+    pub fn named(name: &[u8]) -> Option<Task> {
+        match name {
+            b"print_interval" => Some(Task::PrintInterval),
+            _ => Reader::named(name).map(Task::Read),
+        }
+    }
+}
+
 #[derive(Clone, Copy)]
 pub enum Reader {
     StampNanos,
@@ -20,6 +37,9 @@ pub enum Reader {
     IntervalIn(IntervalUnit),
     IntervalYearMonth,
     IntervalDayTime,
+    // The components of an interval.
+    List,
+    ListIn(IntervalUnit),
 }
 
 impl Reader {
@@ -41,6 +61,7 @@ impl Reader {
             b"interval" => Some(Reader::Interval),
             b"interval_year_month" => Some(Reader::IntervalYearMonth),
             b"interval_day_time" => Some(Reader::IntervalDayTime),
+            b"list" => Some(Reader::List),
             _ => None,
         }
     }

@@ -3,6 +3,8 @@ use crate::names::Reader;
 use crate::{Asked, Status, answer};
 use count::Months;
 use interval::IntervalDayTime;
+use interval_text::write_interval;
+use listing::ListRefusal;
 use place::IntervalRefusal;
 use refusal::Refusal;
 use room::Room;
@@ -29,10 +31,7 @@ impl Outcome {
 
 // The line that answers a text, or says that it is longer than is read; its number in front, if asked.
 pub fn line(asked: Asked, number: u64, text: Option<&[u8]>, out: &mut Out) -> Outcome {
-    if asked.number {
-        out.put_number(number);
-        out.put(b": ");
-    }
+    put_line_number(asked.number, number, out);
     let outcome = match text {
         Some(text) => answered(asked.reader, text, out),
         None => {
@@ -42,6 +41,26 @@ pub fn line(asked: Asked, number: u64, text: Option<&[u8]>, out: &mut Out) -> Ou
     };
     out.put(b"\n");
     outcome
+}
+
+// The line of an interval that is printed; its number in front, if asked.
+pub fn printed(interval: Interval, number: bool, out: &mut Out) -> Outcome {
+    put_line_number(number, 1, out);
+    // The longest text has 68 bytes.
+    let mut buffer = [0u8; 68];
+    let outcome = match write_interval(interval, &mut buffer) {
+        Ok(length) => read(buffer.get(..length).unwrap_or(&buffer), out),
+        Err(why) => refused_whole(why, out),
+    };
+    out.put(b"\n");
+    outcome
+}
+
+fn put_line_number(asked: bool, number: u64, out: &mut Out) {
+    if asked {
+        out.put_number(number);
+        out.put(b": ");
+    }
 }
 
 // Texts with the line ends of another system are refused for what does not show.
@@ -60,10 +79,7 @@ pub fn count<Z: Into<i64>>(r: Result<Z, Refusal>, unit: &[u8], out: &mut Out) ->
             put_count(z, unit, out);
             Outcome::Read
         }
-        Err(why) => {
-            refused(why, out);
-            Outcome::Refused(None)
-        }
+        Err(why) => refused_whole(why, out),
     }
 }
 
@@ -76,6 +92,23 @@ pub fn interval<I: Counted>(r: Result<I, IntervalRefusal>, out: &mut Out) -> Out
         }
         Err(why) => refused_at(why, out),
     }
+}
+
+// The lines that a buffer begins with; the last line feed is left out, since one ends each answer.
+pub fn listed(r: Result<usize, ListRefusal>, buffer: &[u8], out: &mut Out) -> Outcome {
+    match r {
+        Ok(length) => read(
+            buffer.get(..length.saturating_sub(1)).unwrap_or(buffer),
+            out,
+        ),
+        Err(ListRefusal::Text(why)) => refused_at(why, out),
+        Err(ListRefusal::Buffer) => refused_whole(Refusal::Buffer, out),
+    }
+}
+
+fn read(answer: &[u8], out: &mut Out) -> Outcome {
+    out.put(answer);
+    Outcome::Read
 }
 
 // What is put as counts, each with its unit.
@@ -112,6 +145,12 @@ fn put_count<Z: Into<i64>>(z: Z, unit: &[u8], out: &mut Out) {
 fn refused(why: Refusal, out: &mut Out) {
     out.put(b"refused ");
     refusal(why, out);
+}
+
+// One that has no place.
+fn refused_whole(why: Refusal, out: &mut Out) -> Outcome {
+    refused(why, out);
+    Outcome::Refused(None)
 }
 
 // The same with the place behind it, where there is one.
@@ -156,5 +195,7 @@ fn meaning(why: Refusal) -> &'static [u8] {
         Refusal::Column => {
             b"the ends of a column's texts fall or pass the bytes, or there are fewer cells than ends"
         }
+        // The program's buffers are long enough.
+        Refusal::Buffer => b"the buffer is too short",
     }
 }

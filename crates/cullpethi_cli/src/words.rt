@@ -1,10 +1,15 @@
 // The words of the command line.
-use crate::names::Reader;
+use crate::names::{Reader, Task};
+use crate::numbers::Numbers;
 use crate::output::{Failure, Streams};
 use crate::{help, output};
 use lines::input::split_once;
 use std::env::{Env, FillError};
 use unit::IntervalUnit;
+
+// What is said where there are other words.
+pub const THREE_NUMBERS: &[u8] =
+    b"print_interval takes three whole numbers, months and days of 32 bits, nanoseconds of 64";
 
 // Where the texts come from.
 #[derive(Clone, Copy)]
@@ -18,36 +23,39 @@ pub enum Source {
 // What the next word is.
 #[derive(Clone, Copy)]
 enum Expected {
-    // An option, or else the reader or the text.
+    // An option, or else the reader, the text or a number.
     Any,
     // The unit of `--default`.
     Unit,
-    // The reader or the text: `--` has ended the options.
+    // The reader, the text or a number: `--` has ended the options.
     Operand,
 }
 
 // What the words up to some place say.
 #[derive(Clone, Copy)]
 pub struct Words {
-    pub reader: Option<Reader>,
+    pub task: Option<Task>,
     // The unit of `--default`.
     unit: Option<IntervalUnit>,
     pub help: bool,
     pub version: bool,
     pub number: bool,
     pub source: Option<Source>,
+    // Those of `print_interval`.
+    pub numbers: Numbers,
     expected: Expected,
 }
 
 // What the words behind the program's name say.
 pub fn all(env: &impl Env, to: Streams) -> Result<Words, Failure> {
     let mut words = Words {
-        reader: None,
+        task: None,
         unit: None,
         help: false,
         version: false,
         number: false,
         source: None,
+        numbers: Numbers::none(),
         expected: Expected::Any,
     };
     // What `arg` fills.
@@ -68,7 +76,11 @@ pub fn all(env: &impl Env, to: Streams) -> Result<Words, Failure> {
 impl Words {
     // The reader, with the unit of `--default`.
     pub fn with_default(&self, reader: Reader) -> Reader {
-        self.unit.map_or(reader, Reader::IntervalIn)
+        match (self.unit, reader) {
+            (Some(unit), Reader::Interval) => Reader::IntervalIn(unit),
+            (Some(unit), Reader::List) => Reader::ListIn(unit),
+            _ => reader,
+        }
     }
 
     // What only the end can tell.
@@ -76,10 +88,11 @@ impl Words {
         if let Expected::Unit = self.expected {
             return Err(output::bad_usage(to, b"no unit behind --default"));
         }
-        match (self.unit, self.reader) {
-            (None, _) | (_, None | Some(Reader::Interval)) => Ok(()),
+        match (self.unit, self.task) {
+            (None, _) | (_, None | Some(Task::Read(Reader::Interval | Reader::List))) => Ok(()),
             (Some(_), Some(_)) => {
-                Err(output::bad_usage(to, b"--default is for interval alone"))
+                let what = b"--default is for interval and list alone";
+                Err(output::bad_usage(to, what))
             },
         }
     }
@@ -121,8 +134,10 @@ impl Words {
 
     // Standard input takes the place of a text.
     fn take_input(&mut self, to: Streams) -> Result<(), Failure> {
-        if self.reader.is_none() {
-            return Err(no_such_reader(to, b"-"));
+        match self.task {
+            None => return Err(no_such_reader(to, b"-")),
+            Some(Task::PrintInterval) => return self.take_number(to, b"-"),
+            Some(Task::Read(_)) => (),
         }
         if self.source.is_some() {
             return Err(output::bad_word(to, b"more than one text", b"-"));
@@ -131,20 +146,36 @@ impl Words {
         Ok(())
     }
 
-    // The first word is the reader, the second the text.
+    // The first word is the reader, the second the text; or numbers follow.
     fn take_operand(&mut self, to: Streams, word: &[u8], at: usize) -> Result<(), Failure> {
-        if self.reader.is_none() {
-            self.reader = Reader::named(word);
-            return match self.reader {
-                Some(_) => Ok(()),
-                None => Err(no_such_reader(to, word)),
-            };
+        match self.task {
+            None => self.take_task(to, word),
+            Some(Task::Read(_)) => self.take_text(to, word, at),
+            Some(Task::PrintInterval) => self.take_number(to, word),
         }
+    }
+
+    fn take_task(&mut self, to: Streams, word: &[u8]) -> Result<(), Failure> {
+        self.task = Task::named(word);
+        match self.task {
+            Some(_) => Ok(()),
+            None => Err(no_such_reader(to, word)),
+        }
+    }
+
+    fn take_text(&mut self, to: Streams, word: &[u8], at: usize) -> Result<(), Failure> {
         if self.source.is_some() {
             let what = b"more than one text; one with spaces stands in quotes";
             return Err(output::bad_word(to, what, word));
         }
         self.source = Some(Source::Argument(at));
+        Ok(())
+    }
+
+    fn take_number(&mut self, to: Streams, word: &[u8]) -> Result<(), Failure> {
+        if !self.numbers.take(word) {
+            return Err(output::bad_word(to, THREE_NUMBERS, word));
+        }
         Ok(())
     }
 }

@@ -1,5 +1,5 @@
 // The answer of each reader.
-use crate::{columns, intervals, show, whole};
+use crate::{columns, intervals, printing, show, whole};
 use calendar::days_from_ymd;
 use lines::input::split_once;
 use number::parse::parse;
@@ -14,6 +14,8 @@ pub fn of(out: &impl Print, name: &[u8], text: &[u8]) -> io::Result<()> {
     }
     match name {
         b"column" => whole::of(out, text),
+        b"write" => printing::write(out, text),
+        b"list" => printing::list(out, text),
         _ => ground(out, name, text),
     }
 }

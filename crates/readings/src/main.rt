@@ -10,6 +10,7 @@ mod answer;
 mod columns;
 mod intervals;
 mod line;
+mod printing;
 mod show;
 mod whole;
 
