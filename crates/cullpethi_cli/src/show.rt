@@ -49,7 +49,7 @@ pub fn printed(interval: Interval, number: bool, out: &mut Out) -> Outcome {
     // The longest text has 68 bytes.
     let mut buffer = [0u8; 68];
     let outcome = match write_interval(interval, &mut buffer) {
-        Ok(length) => read(buffer.get(..length).unwrap_or(&buffer), out),
+        Ok(length) => put_text(buffer.get(..length).unwrap_or(&buffer), out),
         Err(why) => refused_whole(why, out),
     };
     out.put(b"\n");
@@ -97,7 +97,7 @@ pub fn interval<I: Counted>(r: Result<I, IntervalRefusal>, out: &mut Out) -> Out
 // The lines that a buffer begins with; the last line feed is left out, since one ends each answer.
 pub fn listed(r: Result<usize, ListRefusal>, buffer: &[u8], out: &mut Out) -> Outcome {
     match r {
-        Ok(length) => read(
+        Ok(length) => put_text(
             buffer.get(..length.saturating_sub(1)).unwrap_or(buffer),
             out,
         ),
@@ -106,8 +106,8 @@ pub fn listed(r: Result<usize, ListRefusal>, buffer: &[u8], out: &mut Out) -> Ou
     }
 }
 
-fn read(answer: &[u8], out: &mut Out) -> Outcome {
-    out.put(answer);
+fn put_text(text: &[u8], out: &mut Out) -> Outcome {
+    out.put(text);
     Outcome::Read
 }
 
