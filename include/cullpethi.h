@@ -1,4 +1,4 @@
-/* Readers of dates, times of day, timestamps and intervals, proved in Rattle. Link with libcullpethi.a.
+/* Readers of dates, times of day, timestamps and intervals, and printing of intervals, proved in Rattle. Link with libcullpethi.a.
  *
  * Each function returns CULLPETHI_OK and writes its cells, or returns a refusal's number and leaves every cell as it was, but for the one
  * that tells where: `place` of an interval, `index` of a column. That one is written exactly with the refusals that the function's comment
@@ -32,6 +32,7 @@ enum cullpethi_status {
     CULLPETHI_NARROWED = 11,     /* the narrowed interval form cannot hold the result */
     CULLPETHI_SITE_STAMP = 12,   /* the plain stamp reader accepts the text, but it is no site stamp */
     CULLPETHI_COLUMN = 13,       /* the ends of a column's texts fall or pass the bytes, or there are fewer cells than ends */
+    CULLPETHI_BUFFER = 14,       /* the buffer is too short */
     CULLPETHI_NO_UNIT = 255,     /* the number of a default unit is none of cullpethi_unit */
     CULLPETHI_NO_COLUMN = 255    /* the number of a column is none of cullpethi_column */
 };
@@ -132,6 +133,30 @@ uint8_t cullpethi_parse_interval_month_day_nano(const uint8_t *text, size_t len,
 /* The same with a default unit of cullpethi_unit. `place` is written with the same numbers, so not with CULLPETHI_NO_UNIT. */
 uint8_t cullpethi_parse_interval_month_day_nano_config(const uint8_t *text, size_t len, uint8_t default_unit, int32_t *months,
                                                        int32_t *days, int64_t *nanos, size_t *place);
+
+/* The two functions that print have `buffer_len` bytes at `buffer` and a cell `length`. Buffer, cells and text are apart from one another.
+ * Where `buffer_len` is 0, `buffer` may be any pointer but NULL.
+ *
+ * CULLPETHI_OK: the buffer begins with what is printed, in ASCII and without an end mark, and `length` holds how many bytes that is. The
+ * bytes past it are kept: they are not stored to.
+ * CULLPETHI_BUFFER: the buffer is shorter than what is to be printed.
+ * With this and any number but CULLPETHI_OK neither the buffer nor `length` is stored to, not even during the call.
+ */
+
+/* An interval as a text: whole amounts of months, days and nanoseconds in that order, with single spaces, those of 0 left out, `0 months`
+ * where all are 0: `1 months -2 days`. A reader of months, days and nanoseconds reads it back as the same interval, with any default unit.
+ * 68 bytes are always enough. */
+uint8_t cullpethi_write_interval(int32_t months, int32_t days, int64_t nanos, uint8_t *buffer, size_t buffer_len, size_t *length);
+
+/* The components of an interval text, in their order, each as a line with a line feed: that of `1.5 months` is
+ * `unit=month whole=1 frac=500000000000000`. The unit is a name of cullpethi_unit in small letters, that of the default unit too; `whole` is
+ * the whole part of the amount, and `frac` its fraction, with the sign, times ten to the fifteenth. There are at most 12 lines, each of at
+ * most 66 bytes.
+ *
+ * CULLPETHI_NO_UNIT; then the number with which cullpethi_parse_interval_month_day_nano_config with this default unit refuses the text, and
+ * `place` is written with the same numbers as there; then CULLPETHI_BUFFER. */
+uint8_t cullpethi_list_interval(const uint8_t *text, size_t len, uint8_t default_unit, uint8_t *buffer, size_t buffer_len, size_t *length,
+                                size_t *place);
 
 /* A whole column of cullpethi_column. The texts lie end to end in `texts_len` bytes at `texts`: text i is the bytes from the end before it,
  * ends[i - 1], 0 for the first, up to ends[i]. There are `ends_len` of them, and `cells_len` cells; a value of 32 bits keeps its number.

@@ -15,6 +15,8 @@ static ucontext_t here, there;
 static const uint8_t *text;
 static size_t length;
 static int which;
+/* Not on the measured stack. */
+static uint8_t buffer[1024];
 
 static void column(int number) {
     int64_t cell;
@@ -26,7 +28,7 @@ static void column(int number) {
 static void run(void) {
     int32_t a, b;
     int64_t c;
-    size_t place;
+    size_t place, written;
     switch (which) {
     case 0: cullpethi_string_to_timestamp_nanos(text, length, &c); break;
     case 1: cullpethi_string_to_time_nanoseconds(text, length, &c); break;
@@ -45,8 +47,10 @@ static void run(void) {
     case 14: cullpethi_parse_interval_day_time(text, length, &a, &b, &place); break;
     case 15: cullpethi_parse_interval_month_day_nano(text, length, &a, &b, &c, &place); break;
     case 16: cullpethi_parse_interval_month_day_nano_config(text, length, CULLPETHI_HOUR, &a, &b, &c, &place); break;
+    case 17: cullpethi_write_interval(INT32_MIN, INT32_MIN, INT64_MIN, buffer, sizeof buffer, &written); break;
+    case 18: cullpethi_list_interval(text, length, CULLPETHI_HOUR, buffer, sizeof buffer, &written, &place); break;
     default: /* a column of one text, or what a call of nothing takes */
-        if (which >= 17) column(which - 17);
+        if (which >= 19) column(which - 19);
         break;
     }
 }
@@ -76,11 +80,12 @@ int main(void) {
         "1 day", "1.5 months -.5 days", "1 century 2 decades 3 years 4 mons 5 weeks 6 days 7 hours 8 mins 9.123456789012345 secs 1 ms 2 us 3 nanoseconds",
         "1 day 1 d", "1 day 2 hours 3 DAYS 4 hours", "1 day 2147483647 months 1 year -1 decade", "1\xE3\x80\x80" "day 1-2 days", "1 day x",
         "99999999999 years", "1 wee\xE2\x84\xAA", "1\xE3\x80\x80" "day", "9223372036854775808 nanoseconds",
+        "-9223372036854775808.999999999999999 nanoseconds",
     };
     stack = malloc(ROOM);
     if (stack == NULL) return 2;
     size_t most = 0, nothing = used(-1, "");
-    for (int function = 0; function < 27; function++)
+    for (int function = 0; function < 29; function++)
         for (size_t i = 0; i < sizeof texts / sizeof texts[0]; i++) {
             size_t n = used(function, texts[i]) - nothing;
             if (n > most) most = n;
