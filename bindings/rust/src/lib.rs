@@ -1,4 +1,5 @@
-//! Readers of dates, times of day, timestamps and intervals, proved in Rattle, under the names of arrow-cast's `parse` module.
+//! Readers of dates, times of day, timestamps and intervals, proved in Rattle, under the names of arrow-cast's `parse` module; and printing of
+//! intervals.
 //!
 //! | what is read | readers |
 //! |---|---|
@@ -7,6 +8,11 @@
 //! | a date, as `2026-03-01` | [`parse_date32`], [`parse_date64`] |
 //! | an interval, as `1 month -2.5 days` | [`parse_interval_month_day_nano`], [`parse_interval_day_time`], [`parse_interval_year_month`] |
 //! | a whole column of stamps, times or dates | [`parse_column`], [`parse_texts`] |
+//!
+//! | what is printed | by |
+//! |---|---|
+//! | an interval, as `1 months 15 days` | its `Display`, [`write_interval`] |
+//! | the components of an interval text, as `unit=month whole=1 frac=500000000000000` | [`list_interval`], [`list_interval_into`] |
 //!
 //! Each reader takes a [`Text`], bytes or characters, and gives its value or one [`Refusal`]. Three refusals of an interval tell where in
 //! the text they lie: see [`Refusal::place`]. The columns of arrow are types with a `parse` besides, as in arrow-cast: see [`Parser`].
@@ -23,6 +29,7 @@
 mod columns;
 mod intervals;
 mod library;
+mod printing;
 mod refusal;
 mod text;
 mod units;
@@ -30,6 +37,7 @@ mod whole;
 
 pub use columns::*;
 pub use intervals::*;
+pub use printing::*;
 pub use refusal::Refusal;
 pub use text::Text;
 pub use units::IntervalUnit;

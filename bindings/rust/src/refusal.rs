@@ -20,6 +20,7 @@ use std::fmt;
 /// assert_eq!(parse_interval_year_month("1 day"), Err(Refusal::Narrowed));
 /// assert_eq!(site_stamp("1970-01-01 00:00:00Z"), Err(Refusal::SiteStamp));
 /// assert_eq!(parse_column(Column::Date32, "", &[1], &mut [0]).unwrap_err().refusal, Refusal::Column);
+/// assert_eq!(write_interval(IntervalMonthDayNano::new(1, 0, 0), &mut [0; 7]), Err(Refusal::Buffer));
 /// ```
 #[derive(Clone, Copy, Debug, PartialEq, Eq, Hash, PartialOrd, Ord)]
 pub enum Refusal {
@@ -62,10 +63,12 @@ pub enum Refusal {
     SiteStamp,
     /// The ends of a column's texts fall or pass the bytes, or there are fewer cells than ends: `""` with an end of 1.
     Column,
+    /// The buffer is too short: `1 months` into 7 bytes.
+    Buffer,
 }
 
 impl Refusal {
-    /// The refusal's number, from 1 to 13: what the C interface returns.
+    /// The refusal's number, from 1 to 14: what the C interface returns.
     ///
     /// ```
     /// assert_eq!(cullpethi::Refusal::Tail.number(), 5);
@@ -85,6 +88,7 @@ impl Refusal {
             Refusal::Narrowed => 11,
             Refusal::SiteStamp => 12,
             Refusal::Column => 13,
+            Refusal::Buffer => 14,
         }
     }
 
@@ -105,7 +109,7 @@ impl Refusal {
         }
     }
 
-    /// What a status says of a reader that has no place, so of any but an interval's.
+    /// What a status says of a call that has no place, so of any but those that read an interval.
     pub(crate) fn unless_ok(status: u8) -> Result<(), Refusal> {
         Err(match status {
             0 => return Ok(()),
@@ -118,12 +122,13 @@ impl Refusal {
             7 => Refusal::TimeOfDay,
             12 => Refusal::SiteStamp,
             13 => Refusal::Column,
+            14 => Refusal::Buffer,
             // 255 comes only of a number that `Column` does not have.
-            n => unreachable!("{n} is no refusal of a stamp, a time, a date or a column"),
+            n => unreachable!("{n} is no refusal of a call that has no place"),
         })
     }
 
-    /// What a status says of an interval's reader, with the cell that it writes together with 8, 9 and 10.
+    /// What a status says of a call that reads an interval, with the cell that it writes together with 8, 9 and 10.
     pub(crate) fn unless_ok_at(status: u8, place: usize) -> Result<(), Refusal> {
         Err(match status {
             0 => return Ok(()),
@@ -132,6 +137,7 @@ impl Refusal {
             9 => Refusal::RepeatedUnit { place },
             10 => Refusal::Overflow { place },
             11 => Refusal::Narrowed,
+            14 => Refusal::Buffer,
             // 255 comes only of a number that `IntervalUnit` does not have.
             n => unreachable!("{n} is no refusal of an interval"),
         })
@@ -160,6 +166,7 @@ impl fmt::Display for Refusal {
             Refusal::Narrowed => "the narrowed interval form cannot hold the result",
             Refusal::SiteStamp => "the plain stamp reader accepts the text, but it is no site stamp",
             Refusal::Column => "the ends of a column's texts fall or pass the bytes, or there are fewer cells than ends",
+            Refusal::Buffer => "the buffer is too short",
         })?;
         match self.place() {
             Some(place) => write!(f, ", at byte {place}"),

@@ -250,6 +250,7 @@ fn refusals() {
         parse_column(Column::Date32, "", &[1], &mut [0])
             .unwrap_err()
             .refusal,
+        write_interval(IntervalMonthDayNano::new(1, 0, 0), &mut [0; 7]).unwrap_err(),
     ];
     for (i, refusal) in each.into_iter().enumerate() {
         assert_eq!(usize::from(refusal.number()), i + 1);
