@@ -341,6 +341,31 @@ impl Generator {
     }
 }
 
+/// 0, 1, each power of ten and one less, with either sign, the least and the greatest.
+pub fn extremes(least: i64, greatest: i64) -> Vec<i64> {
+    let powers = (0..19).map(|k| 10_i64.pow(k)).filter(|power| *power <= greatest);
+    let mut all: Vec<i64> = powers.flat_map(|power| [power, power - 1, -power, 1 - power]).chain([least, greatest]).collect();
+    all.sort();
+    all.dedup();
+    all
+}
+
+/// Intervals to print.
+impl Generator {
+    /// A count of at most so many bits, each width as often.
+    fn count(&mut self, bits: u64) -> i64 {
+        let width = 1 + self.below(bits);
+        self.next() as i64 >> (64 - width)
+    }
+
+    /// Months, days and nanoseconds, any of them left out.
+    pub fn counts(&mut self) -> (i32, i32, i64) {
+        let out = self.below(8);
+        let mut count = |bit: u64, bits: u64| if out & bit == 0 { self.count(bits) } else { 0 };
+        (count(1, 32) as i32, count(2, 32) as i32, count(4, 64))
+    }
+}
+
 /// Intervals with a fault, whose place is to be found.
 impl Generator {
     /// A piece that is none in any component, units that come again, a total that does not fit and perhaps recovers; or more than one.

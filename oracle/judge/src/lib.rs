@@ -20,6 +20,7 @@ pub mod lines;
 pub mod page;
 pub mod place;
 pub mod postgres;
+pub mod printing;
 
 pub use Answer::*;
 

@@ -39,6 +39,23 @@ pub mod raw {
             nanos: &mut i64,
             place: &mut usize,
         ) -> u8;
+        pub fn cullpethi_write_interval(
+            months: i32,
+            days: i32,
+            nanos: i64,
+            buffer: *mut u8,
+            buffer_len: usize,
+            length: &mut usize,
+        ) -> u8;
+        pub fn cullpethi_list_interval(
+            text: *const u8,
+            len: usize,
+            default_unit: u8,
+            buffer: *mut u8,
+            buffer_len: usize,
+            length: &mut usize,
+            place: &mut usize,
+        ) -> u8;
         pub fn cullpethi_parse_column(
             column: u8,
             texts: *const u8,

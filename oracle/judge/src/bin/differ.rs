@@ -1,9 +1,11 @@
 //! differ SEED COUNT: the Rust and the library on the same texts, COUNT for each family and besides all short texts over small alphabets,
-//! COUNT / 4 more intervals with a fault; then on whole columns, COUNT / 20 of each of the ten.
+//! COUNT / 4 more intervals with a fault, and the listing of each interval; then COUNT / 4 intervals and extreme ones printed; then whole
+//! columns, COUNT / 20 of each of the ten.
 use judge::column::{accepted, by_library, by_rust, Texts, Whole, COLUMNS};
-use judge::generate::{Family, Generator};
+use judge::generate::{extremes, Family, Generator};
 use judge::library::told;
 use judge::place::Placed;
+use judge::printing::Printings;
 use judge::*;
 
 const STAMPS: [Reader; 7] = [
@@ -83,15 +85,23 @@ fn compare(reader: Reader, placed: &Placed, n: &mut Counts) {
     }
 }
 
-/// The counts of a family's readers, in their order.
-type Counted = [Counts; 7];
+/// The counts of a family's readers, in their order, and of the listings of its texts.
+#[derive(Default)]
+struct Counted {
+    readers: [Counts; 7],
+    listings: Printings,
+}
 
 fn on_all(family: Family, g: &mut Generator, text: &[u8], n: &mut Counted) {
     let placed = Placed::new(text);
-    for (reader, n) in readers(family).iter().zip(n) {
+    for (reader, counts) in readers(family).iter().zip(&mut n.readers) {
         match reader {
-            Reader::IntervalConfig(_) => compare(Reader::IntervalConfig(g.below(12) as u8), &placed, n),
-            _ => compare(*reader, &placed, n),
+            Reader::IntervalConfig(_) => {
+                let unit = g.below(12) as u8;
+                compare(Reader::IntervalConfig(unit), &placed, counts);
+                n.listings.listing(&placed, unit);
+            }
+            _ => compare(*reader, &placed, counts),
         }
     }
 }
@@ -125,26 +135,24 @@ fn short(family: Family, g: &mut Generator) -> Counted {
 
 /// Intervals most of which are refused at a place: all short texts whose amounts reach a limit, with white space of one byte and of three
 /// bytes, and generated ones.
-fn faulty(count: u64, g: &mut Generator) -> Counts {
-    let mut n = Counted::default();
-    exhaust(Family::Interval, "", &["1", "-", "2147483647", " ", "\u{3000}", "d", "w", "mon"], 6, g, &mut n);
+fn faulty(count: u64, g: &mut Generator, n: &mut Counted) {
+    exhaust(Family::Interval, "", &["1", "-", "2147483647", " ", "\u{3000}", "d", "w", "mon"], 6, g, n);
     for _ in 0..count {
         let text = g.faulty_interval();
-        on_all(Family::Interval, g, &text, &mut n);
+        on_all(Family::Interval, g, &text, n);
     }
-    sum(&n)
 }
 
 fn sum(of: &Counted) -> Counts {
     let mut all = Counts::default();
-    of.iter().for_each(|n| all += *n);
+    of.readers.iter().for_each(|n| all += *n);
     all
 }
 
 /// What share of the generated texts is accepted: of all comparisons, and of each reader's.
 fn shares(family: Family, generated: &Counted) -> String {
     let share = |n: &Counts| format!("{:.1} %", 100.0 * n.accepted as f64 / n.compared.max(1) as f64);
-    let each: Vec<String> = readers(family).iter().zip(generated).map(|(r, n)| format!("{} {}", named(*r), share(n))).collect();
+    let each: Vec<String> = readers(family).iter().zip(&generated.readers).map(|(r, n)| format!("{} {}", named(*r), share(n))).collect();
     format!("{} ({})", share(&sum(generated)), each.join(", "))
 }
 
@@ -236,39 +244,66 @@ fn columns(seed: u64, count: u64) -> [u64; 5] {
     n
 }
 
+/// Intervals printed: of all combinations of extreme counts, and generated ones.
+fn intervals(seed: u64, count: u64) -> Printings {
+    let mut n = Printings::default();
+    let narrow = extremes(i32::MIN.into(), i32::MAX.into());
+    for months in &narrow {
+        for days in &narrow {
+            extremes(i64::MIN, i64::MAX).into_iter().for_each(|nanos| n.interval((*months as i32, *days as i32, nanos)));
+        }
+    }
+    let mut g = Generator::new(seed ^ 32 << 56);
+    (0..count).for_each(|_| n.interval(g.counts()));
+    n
+}
+
+/// Compares a family's texts, and tells; how many comparisons there were, and how many differ.
+fn compare_family(family: Family, seed: u64, count: u64) -> [u64; 2] {
+    let mut g = Generator::new(seed ^ (family as u64) << 56);
+    let mut all = short(family, &mut g);
+    let mut generated = Counted::default();
+    for _ in 0..count {
+        let text = g.text(family);
+        on_all(family, &mut g, &text, &mut generated);
+    }
+    if family == Family::Interval {
+        faulty(count / 4, &mut g, &mut all);
+    }
+    let mut n = sum(&all);
+    n += sum(&generated);
+    println!(
+        "{family:?}: compared {}, accepted {}, not UTF-8 {}, number untold by the Rust {}, different {}",
+        n.compared, n.accepted, n.not_utf8, n.number_untold, n.differ
+    );
+    println!("  accepted of the generated: {}", shares(family, &generated));
+    let mut l = all.listings;
+    l += generated.listings;
+    if family == Family::Interval {
+        let [of_8, of_9, of_10] = n.places;
+        println!("  places compared: {} (of 8 {of_8}, of 9 {of_9}, of 10 {of_10})", of_8 + of_9 + of_10);
+        println!(
+            "Listings: compared {}, printed {}, refused {}, buffer too short {}, different {}",
+            l.compared, l.printed, l.refused, l.too_short, l.differ
+        );
+    }
+    [n.compared + l.compared, n.differ + l.differ]
+}
+
 fn main() {
     let mut args = std::env::args().skip(1).map(|a| a.parse::<u64>().expect("differ SEED COUNT"));
     let (seed, count) = (args.next().unwrap_or(1), args.next().unwrap_or(1_000_000));
-    let (mut passed, mut failed) = (0, 0);
     println!("seed {seed}, {count} texts a family");
-    for family in [Family::Stamp, Family::Time, Family::Date, Family::Interval] {
-        let mut g = Generator::new(seed ^ (family as u64) << 56);
-        let mut n = sum(&short(family, &mut g));
-        let mut generated = Counted::default();
-        for _ in 0..count {
-            let text = g.text(family);
-            on_all(family, &mut g, &text, &mut generated);
-        }
-        n += sum(&generated);
-        if family == Family::Interval {
-            n += faulty(count / 4, &mut g);
-        }
-        println!(
-            "{family:?}: compared {}, accepted {}, not UTF-8 {}, number untold by the Rust {}, different {}",
-            n.compared, n.accepted, n.not_utf8, n.number_untold, n.differ
-        );
-        println!("  accepted of the generated: {}", shares(family, &generated));
-        if family == Family::Interval {
-            let [of_8, of_9, of_10] = n.places;
-            println!("  places compared: {} (of 8 {of_8}, of 9 {of_9}, of 10 {of_10})", of_8 + of_9 + of_10);
-        }
-        passed += n.compared - n.differ;
-        failed += n.differ;
-    }
+    let families = [Family::Stamp, Family::Time, Family::Date, Family::Interval].map(|family| compare_family(family, seed, count));
+    let n = intervals(seed, count / 4);
+    println!(
+        "Printed intervals: compared {}, printed {}, buffer too short {}, readings of it by the Rust {}, different {}",
+        n.compared, n.printed, n.too_short, n.read_back, n.differ
+    );
     let [all, accepted, refused, not_read, differ] = columns(seed, count / 20);
     println!("Whole columns: compared {all}, accepted {accepted}, a text refused {refused}, not read {not_read}, different {differ}");
-    passed += all - differ;
-    failed += differ;
-    println!("{passed} passed, {failed} failed");
+    let (mut compared, mut failed) = (all + n.compared, differ + n.differ);
+    families.iter().for_each(|[all, differ]| (compared, failed) = (compared + all, failed + differ));
+    println!("{} passed, {failed} failed", compared - failed);
     std::process::exit((failed != 0) as i32);
 }
