@@ -1,5 +1,6 @@
 /* How much stack a call takes: each function is run on a stack of its own that was filled with a mark, on texts of every kind, and what is no
- * longer the mark counts. It is a measurement of these texts, compiled so; no proof bounds it. Fails past BOUND bytes, which the README names. */
+ * longer the mark counts. It is a measurement of these texts, compiled so; no proof bounds it. Fails past BOUND bytes, which the README names.
+ * Linked with `-z now`: where memcpy is looked up at its first call, the dynamic linker takes some KB of stack, by the processor. */
 #define _DEFAULT_SOURCE
 #include "cullpethi.h"
 
