@@ -69,10 +69,11 @@ cut p at w v b e h =
 
 -- what is put behind bytes that were put is put with them
 pub then : {at p q : ℕ} {w v a b c : List ℕ} → Put at w a b p → Put p v b c q → Put at (w ++ v) a c q
-then {at} {p} {q} {w} {v} {a} {b} {c} m n = record
-    { bytes_are = n.bytes_are ∙ rw (m.bytes_are) (cut p at w v a m.end_is m.in_64_bits)
-    ; end_is = omega (arith, m.end_is, n.end_is, length-append w v)
-    ; in_64_bits = m.in_64_bits }
+then {at} {p} {q} {w} {v} {a} {b} {c} m n = record {
+  bytes_are = n.bytes_are ∙ rw (m.bytes_are) (cut p at w v a m.end_is m.in_64_bits);
+  end_is = omega (arith, m.end_is, n.end_is, length-append w v);
+  in_64_bits = m.in_64_bits;
+}
 
 -- no bytes
 pub no_bytes : (at : ℕ) (b : List ℕ) → at < 2 ^ 64 → length b < 2 ^ 64 → Put at [] b b at
@@ -106,10 +107,11 @@ pub inside : {at k e : ℕ} {w b ys : List ℕ} → at < length b → length b <
     → e ≡ min (at + length w) (2 ^ 64 - 1) → Put at w b (put_mid at (at + k - at) b ys) e
 inside {at} {k} {e} {w} {b} {ys} h l p q r =
     let s : at + k - at ≡ k = omega arith in
-    record
-    { bytes_are = rw (s, q) (copied at k w b (omega arith) (omega arith) (λ g. omega arith))
-    ; end_is = r
-    ; in_64_bits = l }
+    record {
+      bytes_are = rw (s, q) (copied at k w b (omega arith) (omega arith) (λ g. omega arith));
+      end_is = r;
+      in_64_bits = l;
+    }
 
 pub outside : {at e : ℕ} {w b : List ℕ} → length b ≤ at → length b < 2 ^ 64 → e ≡ min (at + length w) (2 ^ 64 - 1) → Put at w b b e
 outside {at} {e} {w} {b} h l r = record { bytes_are = sym (past at w b h); end_is = r; in_64_bits = l }

@@ -1,23 +1,22 @@
 -- The text of a number: the relation `NumberText` and the computation `signed_text` are one (`agrees`), and the reader reads it as the number
 -- (`reads_back`). Assumes nothing.
 use mathlib.Core.Path.{◌≡◌, refl, sym, ap, subst, ◌∙◌}
-use mathlib.Core.Bool.{true, ◌&&◌}
+use mathlib.Core.Bool.{true}
 use mathlib.Core.Logic.{◌↔◌}
 use mathlib.Core.List.{List, [], ◌∷◌, ◌++◌}
 use Rattle.std.specs.Prelude.{Some}
 use Prim.Native.Nat.{ℕ, zero, suc, ◌+◌, ◌*◌, ◌-◌, ◌/◌, ◌%◌, ◌^◌, ◌≤◌, ◌<◌}
-use native.Mathlib.Nat.{pow-succ', pow-le-pow_right, mul-le-mul_right}
+use native.Mathlib.Nat.{pow-le-pow_right, mul-le-mul_right}
 use native.Mathlib.Omega.{arith}
-use lib.Dec.{leb, lit≤}
+use lib.Dec.{leb}
 use lib.ListN.{length}
 use lib.IntN.{ℤ, pos, negsuc}
 use borrow.Author.Tests.{leb-true, leb-false}
-use Rattle.std.proofs.lemmas.List.{length-append}
-use Rattle.text.specs.Digits.{within, is_digit, worth, digits, value}
+use Rattle.text.specs.Digits.{is_digit, worth, digits, value}
 use Rattle.text.proofs.Bools.{by_test, within_yes, within_is}
 use Rattle.text.proofs.DigitLists.{value_behind, digits_head, all_digits}
 use Rattle.text.proofs.Values.{ten_pos, value_below}
-use Rattle.number.specs.Widths.{signed, keep, in_type}
+use Rattle.number.specs.Widths.{signed}
 use Rattle.number.specs.Decimal.{Digits, one_or_more, Numeral, plain as plain_numeral, minus as minus_numeral, numeral}
 use Rattle.number.proofs.Agreement.{agrees as numeral_agrees}
 use Rattle.decimal.specs.Decimal.{decimal, signed_text}
@@ -47,10 +46,11 @@ pub record Writes (n : ℕ) (d : List ℕ) : Type 0 where
 
 one_digit : (n : ℕ) → n < 10 → Writes n ((48 + n) ∷ [])
 unfolding value digits
-one_digit n h = record
-    { valued = omega arith
-    ; front = λ g. leading (within_yes 0x31 (48 + n) 0x39 (omega arith) (omega arith)) refl
-    ; all = rw (digit_of_rest n h) }
+one_digit n h = record {
+  valued = omega arith;
+  front = λ g. leading (within_yes 0x31 (48 + n) 0x39 (omega arith) (omega arith)) refl;
+  all = rw (digit_of_rest n h);
+}
 
 front_more : {d : List ℕ} (c : ℕ) → NoZeroInFront d → is_digit c ≡ true → NoZeroInFront (d ++ (c ∷ []))
 front_more c (leading {b} {d} p q) r = leading p (digits_more d c q r)
@@ -58,10 +58,11 @@ front_more c (leading {b} {d} p q) r = leading p (digits_more d c q r)
 digit_more : (n : ℕ) (d : List ℕ) → 10 ≤ n → Writes (n / 10) d → Writes n (d ++ ((48 + n % 10) ∷ []))
 digit_more n d h w =
     let last : is_digit (48 + n % 10) ≡ true = digit_of_rest (n % 10) (omega arith) in
-    record
-    { valued = value_more d 0 (48 + n % 10) ∙ omega (arith, w.valued)
-    ; front = λ g. front_more (48 + n % 10) (w.front (omega arith)) last
-    ; all = digits_more d (48 + n % 10) w.all last }
+    record {
+      valued = value_more d 0 (48 + n % 10) ∙ omega (arith, w.valued);
+      front = λ g. front_more (48 + n % 10) (w.front (omega arith)) last;
+      all = digits_more d (48 + n % 10) w.all last;
+    }
 
 pub writes : (n : ℕ) → Writes n (decimal n)
 writes = each Writes one_digit digit_more
@@ -102,9 +103,9 @@ same_digits (b ∷ d) (c ∷ e) p q l h =
     let u : value 0 d < 10 ^ length d = value_below d db.1 in
     let v : value 0 e < 10 ^ length d = rw (k) (value_below e dc.1) in
     let w : worth b ≡ worth c =
-        by_test (leb (suc (worth b)) (worth c)) (λ t. absurd (apart (10 ^ length d) (worth b) (worth c) (value 0 d) (value 0 e) (leb-true (suc (worth b)) (worth c) t) u s))
-        (λ t. by_test (leb (suc (worth c)) (worth b)) (λ r. absurd (apart (10 ^ length d) (worth c) (worth b) (value 0 e) (value 0 d) (leb-true (suc (worth c)) (worth b) r) v (sym s)))
-        (λ r. omega (arith, leb-false (suc (worth b)) (worth c) t, leb-false (suc (worth c)) (worth b) r))) in
+    by_test (leb (suc (worth b)) (worth c)) (λ t. absurd (apart (10 ^ length d) (worth b) (worth c) (value 0 d) (value 0 e) (leb-true (suc (worth b)) (worth c) t) u s))
+    (λ t. by_test (leb (suc (worth c)) (worth b)) (λ r. absurd (apart (10 ^ length d) (worth c) (worth b) (value 0 e) (value 0 d) (leb-true (suc (worth c)) (worth b) r) v (sym s)))
+    (λ r. omega (arith, leb-false (suc (worth b)) (worth c) t, leb-false (suc (worth c)) (worth b) r))) in
     let x : value 0 d ≡ value 0 e = omega (arith, rw (w) at s) in
     let y : b ≡ c = omega (arith, w, (within_is 0x30 b 0x39 db.0).0, (within_is 0x30 c 0x39 dc.0).0) in
     rw (y) (ap (λ (r : List ℕ). c ∷ r) (same_digits d e db.1 dc.1 k x))

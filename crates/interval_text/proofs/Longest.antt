@@ -2,16 +2,16 @@
 use mathlib.Core.Path.{◌≡◌, refl}
 use mathlib.Core.Bool.{true, ◌&&◌}
 use mathlib.Core.List.{List, [], ◌∷◌, ◌++◌}
-use Prim.Native.Nat.{ℕ, suc, ◌+◌, ◌-◌, ◌^◌, ◌≤◌, ◌<◌}
+use Prim.Native.Nat.{ℕ, ◌+◌, ◌^◌, ◌≤◌}
 use Prim.Native.String.{String}
 use native.Mathlib.Omega.{arith}
 use lib.Dec.{eqb}
 use lib.ListN.{length}
-use lib.IntN.{ℤ, pos, negsuc, nat_abs}
+use lib.IntN.{ℤ, negsuc, nat_abs}
 use lib.Signed.{mag}
 use mir.Syntax.{w32, w64}
 use mir.Val.{SFits}
-use borrow.Author.Tests.{ltb-true, lt-ltb}
+use borrow.Author.Tests.{lt-ltb}
 use Rattle.std.proofs.lemmas.List.{length-append}
 use Rattle.text.proofs.Bools.{by_test}
 use Rattle.text.proofs.Logic.{both}
@@ -47,8 +47,12 @@ longest c e =
     let m = in_width 31 10 c.months (omega arith) (omega arith) f.0 in
     let d = in_width 31 10 c.days (omega arith) (omega arith) g.0 in
     let n = in_width 63 19 c.nanos (omega arith) (omega arith) g.1 in
-    from_tail (parts c) (omega (arith, one_more c.months "months" (part_before c.days "days" (part_before c.nanos "nanoseconds" [])) 11 m,
-    one_more c.days "days" (part_before c.nanos "nanoseconds" []) 11 d, one_more c.nanos "nanoseconds" [] 20 n))
+    from_tail (parts c) (omega (
+      arith,
+      one_more c.months "months" (part_before c.days "days" (part_before c.nanos "nanoseconds" [])) 11 m,
+      one_more c.days "days" (part_before c.nanos "nanoseconds" []) 11 d,
+      one_more c.nanos "nanoseconds" [] 20 n,
+    ))
 
 -- such as counts that the code holds
 pub held : {m d n : ℤ} → SFits w32 m → SFits w32 d → SFits w64 n → length (interval_text (counts m d n)) ≤ 68

@@ -1,7 +1,7 @@
 -- Readings of the definition: zero parts, each part alone, the least and the greatest counts. Assumes nothing.
 use mathlib.Core.Path.{refl}
 use mathlib.Core.List.{List, [], ◌∷◌}
-use Prim.Native.Nat.{ℕ, suc}
+use Prim.Native.Nat.{ℕ}
 use Prim.Native.String.{String}
 use lib.IntN.{ℤ, pos, negsuc}
 use Rattle.utf8.specs.Quoted.{bytes}

@@ -12,7 +12,7 @@ use lib.IntN.{ℤ, pos, nat_abs, one, *ℤ-one, +ℤ_idl, +ℤ_idr}
 use lib.Signed.{mag}
 use borrow.Author.Tests.{eqb-true, ne_eqb, lt-ltb, ltb-true}
 use Rattle.text.specs.Digits.{digits, value}
-use Rattle.text.proofs.Bools.{by_test, holds_not, within_yes, within_is}
+use Rattle.text.proofs.Bools.{by_test, holds_not}
 use Rattle.text.proofs.Logic.{both}
 use Rattle.utf8.specs.Quoted.{bytes}
 use Rattle.white.specs.WhiteSpace.{white}
@@ -28,7 +28,7 @@ use Rattle.amount.proofs.AmountLaws.{same_sign}
 use Rattle.component.specs.Grammar.{Component, component, Complete, apart, Divides, last, more}
 use Rattle.component.specs.Spelled.{spelled, unit_for}
 use Rattle.decimal.specs.Decimal.{decimal_in, decimal, signed_text}
-use Rattle.decimal.specs.NumberText.{NoZeroInFront, leading, NumberText, zero_digit, plain, minus}
+use Rattle.decimal.specs.NumberText.{NoZeroInFront, NumberText, zero_digit, plain, minus}
 use Rattle.decimal.proofs.Agreement.{agrees, written_digits}
 use Rattle.rule.specs.Contribution.{Counts, counts, whole_times, frac_times, contribution, fits, plus, zeros}
 use Rattle.rule.specs.Meaning.{Runs, done, add, Means, totalled}

@@ -1,14 +1,14 @@
 -- The parts of an interval's text, put one behind another. Assumes nothing.
-use mathlib.Core.Path.{◌≡◌, refl, sym, ap, ◌∙◌}
-use mathlib.Core.Bool.{true, false, cond}
+use mathlib.Core.Path.{◌≡◌, refl, ap, ◌∙◌}
+use mathlib.Core.Bool.{true, false}
 use mathlib.Core.List.{List, [], ◌∷◌, ◌++◌, append-nil}
-use Prim.Native.Nat.{ℕ, zero, suc, ◌+◌, ◌-◌, ◌^◌, ◌≤◌, ◌<◌, min}
+use Prim.Native.Nat.{ℕ, ◌+◌, ◌-◌, ◌^◌, ◌<◌, min}
 use Prim.Native.String.{String}
 use native.Mathlib.Omega.{arith}
 use lib.Dec.{eqb}
 use lib.ListN.{length}
 use lib.IntN.{ℤ, nat_abs}
-use borrow.Author.Tests.{ne_eqb, eqb-true}
+use borrow.Author.Tests.{ne_eqb}
 use mir.Syntax.{w32, w64}
 use mir.Val.{SFits, to_z, of_z}
 use mir.Facts.{to_z-of_z}
@@ -107,11 +107,11 @@ module _ {m d n x y z : ℤ} {p q r : ℕ} {a b c e : List ℕ} (one : Put 0 (pa
       let g : Put p (part_at p d (bytes " days")) b c q = rw (ed) at two in
       let h : Put q (part_at q n (bytes " nanoseconds")) c e r = rw (en) at three in
       let i : part_at q n (bytes " nanoseconds") ++ [] ≡ behind q (part_before n "nanoseconds" []) =
-          one_more q n "nanoseconds" [] (omega (arith, g.end_is)) in
+      one_more q n "nanoseconds" [] (omega (arith, g.end_is)) in
       let j : part_at p d (bytes " days") ++ behind q (part_before n "nanoseconds" []) ≡ behind p (part_before d "days" (part_before n "nanoseconds" [])) =
-          rw (g.end_is) (one_more p d "days" (part_before n "nanoseconds" []) (omega (arith, f.end_is))) in
+      rw (g.end_is) (one_more p d "days" (part_before n "nanoseconds" []) (omega (arith, f.end_is))) in
       let k : part_at 0 m (bytes " months") ++ behind p (part_before d "days" (part_before n "nanoseconds" [])) ≡ behind 0 (parts (counts m d n)) =
-          rw (f.end_is) (one_more 0 m "months" (part_before d "days" (part_before n "nanoseconds" [])) (omega arith)) in
+      rw (f.end_is) (one_more 0 m "months" (part_before d "days" (part_before n "nanoseconds" [])) (omega arith)) in
       rw (← k, ← j, ← i) (then f (then g (rw (append-nil (part_at q n (bytes " nanoseconds"))) h)))
 
   pub not_zero : (r ≡ 0 → ⊥) → Put 0 (interval_text (counts m d n)) a e r

@@ -35,12 +35,7 @@ fn put_interval(interval: Interval, buffer: &mut [u8]) -> usize
     ensures text { Put 0 (interval_text (counts_of interval)) buffer.old buffer.new result }
     ensures short { length (interval_text (counts_of interval)) ≤ 68 }
 {
-    put_counts(
-        interval.months.0,
-        interval.days.0,
-        interval.nanos.0,
-        buffer,
-    )
+    put_counts(interval.months.0, interval.days.0, interval.nanos.0, buffer)
 }
 
 // The text written into a buffer, and its length; the rest of the buffer is kept. 14 where it is too short, and then nothing is written.

@@ -1,21 +1,18 @@
 -- A text has exactly one listing, and `listing` computes it. Assumes nothing.
-use mathlib.Core.Path.{◌≡◌, refl, sym, ap, ◌∙◌}
+use mathlib.Core.Path.{◌≡◌, refl, sym, ap}
 use mathlib.Core.Logic.{◌↔◌}
-use mathlib.Core.List.{List, [], ◌∷◌, ◌++◌}
-use Rattle.std.specs.Prelude.{Some}
+use mathlib.Core.List.{List}
 use Prim.Native.Nat.{ℕ}
 use Rattle.refusal.specs.Outcome.{Outcome, accepted, refused}
 use Rattle.decimal.proofs.Agreement.{agrees as number_text}
 use Rattle.amount.specs.Scan.{amount_of}
 use Rattle.amount.proofs.AmountLaws.{amount_value}
 use Rattle.unit.specs.declared.IntervalUnit.{IntervalUnit}
-use Rattle.component.specs.Grammar.{Component, Divides}
-use Rattle.component.specs.Division.{divide}
+use Rattle.component.specs.Grammar.{Component}
 use Rattle.component.specs.Spelled.{unit_for}
 use Rattle.component.proofs.Agreement.{agrees as division}
 use Rattle.rule.specs.Contribution.{Counts}
 use Rattle.rule.specs.Answer.{month_day_nano}
-use Rattle.rule.specs.Meaning.{Means}
 use Rattle.rule.proofs.Demand3.{Amounts, no_more, one_more, amounts, Adds, demand3}
 use Rattle.listing.specs.Listing.{Line, line_of, Lines, no_more as no_line, line_then, Lists, listed, not_accepted}
 use Rattle.listing.specs.Lines.{line, lines, lines_if, listing}

@@ -69,7 +69,7 @@ module _ {u : IntervalUnit} {s start now : List ℕ} {at end : ℕ} (g : Goes u 
       from (ahead w r h i j) =
           let k : l.this ∷ [] ≡ r = inside (sym (at_last precision s at l.stepped) ∙ h) in
           let m : w ++ line v (value_of a) ≡ lines precision u d =
-              ap (λ (x : List ℕ). w ++ x) (sym (line_is u v l.holds q) ∙ sym (append-nil (line (unit_for u l.this) (amount_of precision l.this.amount))) ∙ ap (lines precision u) k) ∙ i in
+          ap (λ (x : List ℕ). w ++ x) (sym (line_is u v l.holds q) ∙ sym (append-nil (line (unit_for u l.this) (amount_of precision l.this.amount))) ∙ ap (lines precision u) k) ∙ i in
           rw (← m) (then j p)
 
   -- one more, before the place x

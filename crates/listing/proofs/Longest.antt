@@ -3,13 +3,11 @@
 use mathlib.Core.Path.{◌≡◌, refl, sym, ◌∙◌}
 use mathlib.Core.Bool.{true, false}
 use mathlib.Core.List.{List, [], ◌∷◌, ◌++◌}
-use Rattle.std.specs.Prelude.{Option, None, Some}
-use Prim.Native.Nat.{ℕ, suc, ◌+◌, ◌*◌, ◌^◌, ◌≤◌, ◌<◌}
+use Rattle.std.specs.Prelude.{Some}
+use Prim.Native.Nat.{ℕ, ◌+◌, ◌*◌, ◌≤◌, ◌<◌}
 use native.Mathlib.Nat.{mul-le-mul_right}
 use native.Mathlib.Omega.{arith}
 use lib.ListN.{length}
-use lib.IntN.{ℤ, pos, negsuc, nat_abs}
-use borrow.Author.Tests.{ltb-true}
 use Rattle.std.proofs.lemmas.List.{length-append}
 use Rattle.text.proofs.Bools.{by_test}
 use Rattle.utf8.specs.Quoted.{bytes}
@@ -18,11 +16,10 @@ use Rattle.buffer.specs.Buffer.{Put}
 use Rattle.buffer.specs.Written.{Written}
 use Rattle.buffer.proofs.Puts.{written, too_long}
 use Rattle.amount.specs.Grammar.{precision, Value, Amount, whole, decimal, fraction, whole_fits}
-use Rattle.amount.specs.Scan.{amount_of}
 use Rattle.amount.proofs.AmountLaws.{amount_value, frac_small}
 use Rattle.decimal.specs.Decimal.{signed_text}
 use Rattle.decimal.proofs.Recursion.{signed_most, in_width}
-use Rattle.refusal.specs.Outcome.{Outcome, accepted, refused}
+use Rattle.refusal.specs.Outcome.{accepted, refused}
 use Rattle.refusal.proofs.Outcomes.{clash}
 use Rattle.unit.specs.declared.IntervalUnit.{IntervalUnit}
 use Rattle.unit.specs.declared.IntervalUnit.TheVariants.{Century, Decade, Year, Month, Week, Day, Hour, Minute, Second, Millisecond, Microsecond, Nanosecond}
@@ -63,8 +60,15 @@ unfolding line
 short_line {n} {a} {v} u h m =
     let i = in_width 63 19 v.integer (omega arith) (omega arith) (whole_small m) in
     let f = signed_most v.frac n h (frac_small m) in
-    omega (arith, i, f, short_name u, length-append (name u) (bytes " whole=" ++ (signed_text v.integer ++ (bytes " frac=" ++ (signed_text v.frac ++ (0x0A ∷ []))))),
-    length-append (signed_text v.integer) (bytes " frac=" ++ (signed_text v.frac ++ (0x0A ∷ []))), length-append (signed_text v.frac) (0x0A ∷ []))
+    omega (
+      arith,
+      i,
+      f,
+      short_name u,
+      length-append (name u) (bytes " whole=" ++ (signed_text v.integer ++ (bytes " frac=" ++ (signed_text v.frac ++ (0x0A ∷ []))))),
+      length-append (signed_text v.integer) (bytes " frac=" ++ (signed_text v.frac ++ (0x0A ∷ []))),
+      length-append (signed_text v.frac) (0x0A ∷ []),
+    )
 
 short_lines : (n : ℕ) (u : IntervalUnit) {d : List Component} → 1 ≤ n → Amounts n d → length (lines n u d) ≤ length d * (51 + n)
 unfolding lines

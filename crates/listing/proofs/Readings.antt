@@ -38,7 +38,7 @@ rows =
     lists "-1w 2d -3h 4m" "unit=week whole=-1 frac=0\nunit=day whole=2 frac=0\nunit=hour whole=-3 frac=0\nunit=minute whole=4 frac=0\n" ∷
     lists "1s 2ms 3us 4nanosecond"
     "unit=second whole=1 frac=0\nunit=millisecond whole=2 frac=0\nunit=microsecond whole=3 frac=0\nunit=nanosecond whole=4 frac=0\n" ∷
-    lists_in Hour "-0 wee\u{212A}s 2" "unit=week whole=0 frac=0\nunit=hour whole=2 frac=0\n" ∷
+    lists_in Hour "-0 weeKs 2" "unit=week whole=0 frac=0\nunit=hour whole=2 frac=0\n" ∷
     lists_in Day "-0.000000000000001" "unit=day whole=0 frac=-1\n" ∷
     lists "-9223372036854775808.999999999999999 NANOSECONDS" "unit=nanosecond whole=-9223372036854775808 frac=-999999999999999\n" ∷
     lists "0010.50c 007us" "unit=century whole=10 frac=500000000000000\nunit=microsecond whole=7 frac=0\n" ∷

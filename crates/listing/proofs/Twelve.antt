@@ -1,12 +1,12 @@
 -- A list in which no unit comes twice has at most twelve components, since there are twelve units. Assumes nothing.
 use mathlib.Core.Path.{◌≡◌, refl}
-use mathlib.Core.Bool.{Bool, true, false, true≢false, ◌||◌, cond}
+use mathlib.Core.Bool.{Bool, false, true≢false, ◌||◌, cond}
 use mathlib.Core.List.{List, [], ◌∷◌}
 use Prim.Native.Nat.{ℕ, zero, suc, ◌+◌, ◌≤◌, ◌<◌}
 use native.Mathlib.Omega.{arith}
 use lib.Dec.{eqb}
 use lib.ListN.{length}
-use borrow.Author.Tests.{eqb-true, eqb-false, ne_eqb, eq-eqb}
+use borrow.Author.Tests.{eqb-true, eqb-false, ne_eqb}
 use Rattle.text.proofs.Bools.{by_test}
 use Rattle.unit.specs.Units.{rank}
 use Rattle.unit.specs.declared.IntervalUnit.{IntervalUnit}

@@ -1,5 +1,5 @@
 use mir.Facts.{to_z-of_z}
-use Rattle.std.proofs.Common.{rules, arith}
+use Rattle.std.proofs.Common.{rules}
 use Rattle.interval_text.proofs.Spacing.{left_out, put_in}
 use Rattle.interval_text.proofs.parts.put_part.Goals as goal
 

@@ -1,7 +1,6 @@
 use mathlib.Core.Path.{◌∙◌}
 use native.Mathlib.Omega.{arith}
 use Rattle.std.proofs.Common.{rules}
-use Rattle.std.specs.Prelude.{Err}
 use Rattle.amount.specs.Grammar.{precision}
 use Rattle.component.specs.Read.{LastIs, MoreIs, piece_is, place_after, taken_is}
 use Rattle.unit.proofs.WordLaws.{or_else_lem}
