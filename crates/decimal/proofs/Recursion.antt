@@ -93,6 +93,10 @@ most = each (λ (n : ℕ) (d : List ℕ). (k : ℕ) → 1 ≤ k → n < 10 ^ k �
     grown n d h f (suc zero) l m = absurd (omega (arith, pow-succ' 10 0))
     grown n d h f (suc (suc k)) l m = omega (arith, length-append d ((48 + n % 10) ∷ []), f (suc k) (omega arith) (omega (arith, pow-succ' 10 (suc k))))
 
+-- the size of a number of 64 signed bits has at most nineteen
+pub nineteen : (n : ℕ) → n ≤ 2 ^ 63 → length (decimal n) ≤ 19
+nineteen n h = most n 19 (omega arith) (omega arith)
+
 -- a signed number of a size below 10^k has at most k digits, and a minus
 pub signed_most : (z : ℤ) (k : ℕ) → 1 ≤ k → nat_abs z < 10 ^ k → length (signed_text z) ≤ suc k
 unfolding signed_text
