@@ -1,5 +1,5 @@
 //! Printing: an interval as a text, and the components of an interval text.
-use crate::{library, IntervalMonthDayNano, IntervalUnit, Refusal, Text};
+use crate::{library, IntervalMonthDayNano, IntervalParseConfig, Refusal, Text};
 use std::fmt;
 
 /// The longest text of an interval, that of the least counts.
@@ -54,25 +54,26 @@ impl fmt::Display for IntervalMonthDayNano {
     }
 }
 
-/// Lists the components of an interval text in their order, a line each; this unit is that of a last amount that has none.
+/// Lists the components of an interval text in their order, a line each; the caller says which unit may be left out.
 ///
 /// A line has the unit's name in the singular, the amount's whole part, and its fraction with the sign, times ten to the fifteenth.
 ///
-/// Refused as the text is by [`parse_interval_month_day_nano_config`](crate::parse_interval_month_day_nano_config) with this default unit.
+/// Refused as the text is by [`parse_interval_month_day_nano_config`](crate::parse_interval_month_day_nano_config).
 ///
 /// ```
 /// # use cullpethi::*;
-/// let listed = list_interval("1.5 months -.5", IntervalUnit::Day);
+/// let in_days = IntervalParseConfig::new(IntervalUnit::Day);
+/// let listed = list_interval("1.5 months -.5", in_days);
 /// let lines = "unit=month whole=1 frac=500000000000000\nunit=day whole=0 frac=-500000000000000\n";
 /// assert_eq!(listed.as_deref(), Ok(lines));
-/// assert_eq!(list_interval("1 day 2", IntervalUnit::Day), Err(Refusal::RepeatedUnit { place: 6 }));
+/// assert_eq!(list_interval("1 day 2", in_days), Err(Refusal::RepeatedUnit { place: 6 }));
 /// ```
 pub fn list_interval<T: Text + ?Sized>(
     text: &T,
-    default_unit: IntervalUnit,
+    config: IntervalParseConfig,
 ) -> Result<String, Refusal> {
     let mut buffer = vec![0; LONGEST_LISTING];
-    let length = list_interval_into(text, default_unit, &mut buffer)?;
+    let length = list_interval_into(text, config, &mut buffer)?;
     buffer.truncate(length);
     Ok(String::from_utf8(buffer).expect("a listing is ASCII"))
 }
@@ -84,13 +85,14 @@ pub fn list_interval<T: Text + ?Sized>(
 ///
 /// ```
 /// # use cullpethi::*;
+/// let in_months = IntervalParseConfig::new(IntervalUnit::Month);
 /// let mut buffer = [b'.'; 28];
-/// assert_eq!(list_interval_into("2 h", IntervalUnit::Month, &mut buffer), Ok(25));
+/// assert_eq!(list_interval_into("2 h", in_months, &mut buffer), Ok(25));
 /// assert_eq!(&buffer, b"unit=hour whole=2 frac=0\n...");
 /// ```
 pub fn list_interval_into<T: Text + ?Sized>(
     text: &T,
-    default_unit: IntervalUnit,
+    config: IntervalParseConfig,
     buffer: &mut [u8],
 ) -> Result<usize, Refusal> {
     let text = text.text_bytes();
@@ -100,7 +102,7 @@ pub fn list_interval_into<T: Text + ?Sized>(
         library::cullpethi_list_interval(
             text.as_ptr(),
             text.len(),
-            default_unit as u8,
+            config.default_unit as u8,
             buffer.as_mut_ptr(),
             buffer.len(),
             &mut length,

@@ -146,20 +146,25 @@ fn read_back() {
 #[test]
 fn listed() {
     for (text, unit, lines) in LISTINGS {
-        assert_eq!(list_interval(text, unit).as_deref(), Ok(lines), "{text:?}");
-        needs(lines, |buffer| list_interval_into(text, unit, buffer));
+        let config = IntervalParseConfig::new(unit);
+        assert_eq!(
+            list_interval(text, config).as_deref(),
+            Ok(lines),
+            "{text:?}"
+        );
+        needs(lines, |buffer| list_interval_into(text, config, buffer));
     }
 }
 
 #[test]
 fn refused() {
     for (text, unit, refusal) in REFUSED {
-        assert_eq!(list_interval(text, unit), Err(refusal));
+        let config = IntervalParseConfig::new(unit);
+        assert_eq!(list_interval(text, config), Err(refusal));
         for room in [0, 1, 1000] {
-            let listed = printed(room, |buffer| list_interval_into(text, unit, buffer));
+            let listed = printed(room, |buffer| list_interval_into(text, config, buffer));
             assert_eq!(listed, Err(refusal));
         }
-        let config = IntervalParseConfig::new(unit);
         let read = parse_interval_month_day_nano_config(text, config);
         assert_eq!(read, Err(refusal));
     }
@@ -174,9 +179,15 @@ fn line(unit: IntervalUnit) -> String {
 #[test]
 fn names() {
     for unit in IntervalUnit::ALL {
-        assert_eq!(list_interval("-1.5", unit), Ok(line(unit)));
+        assert_eq!(
+            list_interval("-1.5", IntervalParseConfig::new(unit)),
+            Ok(line(unit))
+        );
         for spelling in unit.spellings() {
-            let listed = list_interval(&format!("-1.5 {spelling}"), IntervalUnit::Month);
+            let listed = list_interval(
+                &format!("-1.5 {spelling}"),
+                IntervalParseConfig::new(IntervalUnit::Month),
+            );
             assert_eq!(listed, Ok(line(unit)));
         }
     }
@@ -192,7 +203,10 @@ fn every_unit() {
             .map(|unit| format!("-1.5{}", unit.spellings()[0]))
             .collect();
         let lines: String = units.into_iter().map(line).collect();
-        let listed = list_interval(&parts.join("\u{3000}"), IntervalUnit::Month);
+        let listed = list_interval(
+            &parts.join("\u{3000}"),
+            IntervalParseConfig::new(IntervalUnit::Month),
+        );
         assert_eq!(listed, Ok(lines));
         units.reverse();
     }
@@ -201,7 +215,7 @@ fn every_unit() {
 #[test]
 fn longest_line() {
     let amount = "-9223372036854775808.999999999999999";
-    let listed = list_interval(amount, IntervalUnit::Nanosecond).unwrap();
+    let listed = list_interval(amount, IntervalParseConfig::new(IntervalUnit::Nanosecond)).unwrap();
     assert!(listed.ends_with("whole=-9223372036854775808 frac=-999999999999999\n"));
     assert!(listed.len() <= 66);
 }
