@@ -2,3 +2,4 @@
 pub mod ColumnStatus
 pub mod Listed
 pub mod Readings
+pub mod TextStatus
