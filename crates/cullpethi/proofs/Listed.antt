@@ -218,7 +218,8 @@ range (on_list why h) = (at_least_1 why, h)
 not_zero : (c : Call) (t : List ℕ) (n : ℕ) → answer c t ≡ refused n → n ≡ 0 → ⊥
 not_zero c t n e z = omega (arith, (range (listed c t n e (λ h. omega arith))).0)
 
-not_refused : {A : Type 0} {o : Outcome A} {n : ℕ} → Accepts o → o ≡ refused n → ⊥
+-- what is accepted is not refused
+pub not_refused : {A : Type 0} {o : Outcome A} {n : ℕ} → Accepts o → o ≡ refused n → ⊥
 not_refused (accepts v) e = clash (sym e)
 
 -- a status of 0 means accepted, and any other refused

@@ -23,7 +23,7 @@ use Rattle.buffer.specs.Written.{in_room, length_of}
 use Rattle.cells.specs.Cells.{Told, ToldText}
 use Rattle.cullpethi.specs.Calls.{interval_month_day_nano_config, Accepts, accepts, OnList}
 use Rattle.cullpethi.specs.DefaultUnit.{in_unit, listing_in_unit}
-use Rattle.cullpethi.proofs.Listed.{listed, range}
+use Rattle.cullpethi.proofs.Listed.{listed, range, not_refused}
 
 -- a text that the listing refuses is one that the reader refuses, with that number
 reader_refuses : (o : Option IntervalUnit) (t : List ℕ) (n : ℕ) → listing_in_unit o t ≡ refused n → in_unit o t ≡ refused n
@@ -51,9 +51,6 @@ written_status_0 w status m n before after t =
     by_test (leb (length w) (length before))
     (λ h. let q = rw (h) at t in (λ s. leb-true (length w) (length before) h, λ l. q.0.0))
     (λ h. let q = rw (h) at t in (λ s. absurd (omega (arith, s, q.0.0)), λ l. absurd (omega (arith, leb-false (length w) (length before) h))))
-
-not_refused : {A : Type 0} {o : Outcome A} {n : ℕ} → Accepts o → o ≡ refused n → ⊥
-not_refused (accepts v) e = clash (sym e)
 
 pub listed_status_0 : (unit : ℕ) (t : List ℕ) (status m n : ℕ) (before after : List ℕ) → ToldText (listing_in_unit (unit_numbered unit) t) status m n before after
     → (status ≡ 0) ↔ Accepts (in_room (length before) (listing_in_unit (unit_numbered unit) t))

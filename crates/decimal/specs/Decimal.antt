@@ -7,7 +7,7 @@ unfoldable pub decimal_in : ℕ → ℕ → List ℕ
 decimal_in zero n = []
 decimal_in (suc k) n = cond (ltb n 10) ((48 + n) ∷ []) (decimal_in k (n / 10) ++ ((48 + n % 10) ∷ []))
 
--- the digits of a number: at most 20 below 10^20, and of a larger one fewer than that and the number of times that 10^20 goes into it
+-- the digits of a number, of which there are at most 20, and one more for each time that 10^20 goes into it
 unfoldable pub decimal : ℕ → List ℕ
 decimal n = decimal_in (20 + n / 10 ^ 20) n
 
