@@ -10,7 +10,7 @@ use crate::{library, IntervalUnit, Refusal, Text};
 /// ```
 #[derive(Clone, Copy, Debug, PartialEq, Eq)]
 pub struct IntervalParseConfig {
-    default_unit: IntervalUnit,
+    pub(crate) default_unit: IntervalUnit,
 }
 
 impl IntervalParseConfig {
