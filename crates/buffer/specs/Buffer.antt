@@ -12,7 +12,7 @@ overwritten (suc k) w (x ∷ b) = x ∷ overwritten k w b
 abbrev pub end_of : ℕ → List ℕ → ℕ
 end_of at w = min (at + length w) (2 ^ 64 - 1)
 
--- the bytes w put into a buffer from a place on: the buffer afterwards, and the place behind them
+-- the bytes w put into a buffer, whose length is a number of 64 bits, from a place on: the buffer afterwards, and the place behind them
 pub record Put (at : ℕ) (w before after : List ℕ) (end : ℕ) : Type 0 where
   pub bytes_are : after ≡ overwritten at w before
   pub end_is : end ≡ end_of at w

@@ -8,17 +8,17 @@ use Rattle.std.specs.Prelude.{Some}
 use Prim.Native.Nat.{ℕ, zero, suc, ◌+◌, ◌*◌, ◌-◌, ◌/◌, ◌%◌, ◌^◌, ◌≤◌, ◌<◌}
 use native.Mathlib.Nat.{pow-le-pow_right, mul-le-mul_right}
 use native.Mathlib.Omega.{arith}
-use lib.Dec.{leb}
+use lib.Dec.{ltb}
 use lib.ListN.{length}
 use lib.IntN.{ℤ, pos, negsuc}
-use borrow.Author.Tests.{leb-true, leb-false}
+use borrow.Author.Tests.{ltb-true, ltb-false}
 use Rattle.text.specs.Digits.{is_digit, worth, digits, value}
 use Rattle.text.proofs.Bools.{by_test, within_yes, within_is}
-use Rattle.text.proofs.DigitLists.{value_behind, digits_head, all_digits}
+use Rattle.text.proofs.DigitLists.{value_behind, digits_head}
 use Rattle.text.proofs.Values.{ten_pos, value_below}
 use Rattle.number.specs.Widths.{signed}
 use Rattle.number.specs.Decimal.{Digits, one_or_more, Numeral, plain as plain_numeral, minus as minus_numeral, numeral}
-use Rattle.number.proofs.Agreement.{agrees as numeral_agrees}
+use Rattle.number.proofs.Agreement.{all_digits, agrees as numeral_agrees}
 use Rattle.decimal.specs.Decimal.{decimal, signed_text}
 use Rattle.decimal.specs.NumberText.{NoZeroInFront, leading, NumberText, zero_digit, plain, minus}
 use Rattle.decimal.proofs.Recursion.{each, one}
@@ -48,7 +48,7 @@ one_digit : (n : ℕ) → n < 10 → Writes n ((48 + n) ∷ [])
 unfolding value digits
 one_digit n h = record {
   valued = omega arith;
-  front = λ g. leading (within_yes 0x31 (48 + n) 0x39 (omega arith) (omega arith)) refl;
+  front = λ g. leading (within_yes _ (48 + n) _ (omega arith) (omega arith)) refl;
   all = rw (digit_of_rest n h);
 }
 
@@ -74,22 +74,28 @@ value_first : (b : ℕ) (d : List ℕ) → value 0 (b ∷ d) ≡ worth b * 10 ^ 
 unfolding value
 value_first b d = let z : 0 * 10 + worth b ≡ worth b = omega arith in rw (z) (value_behind d (worth b))
 
+pub written_digits : {d : List ℕ} → NoZeroInFront d → Digits d
+written_digits (leading {b} {d} p q) = let w = within_is _ b _ p in one_or_more (within_yes 0x30 b 0x39 (omega (arith, w.0)) w.1) q
+
 all : {d : List ℕ} → NoZeroInFront d → digits d ≡ true
-all (leading {b} {d} p q) = let w = within_is 0x31 b 0x39 p in all_digits b d (within_yes 0x30 b 0x39 (omega (arith, w.0)) w.1) q
+all p = all_digits (written_digits p)
 
 at_least : {d : List ℕ} → NoZeroInFront d → 10 ^ (length d - 1) ≤ value 0 d
 at_least (leading {b} {d} p q) =
-    let w = within_is 0x31 b 0x39 p in
+    let w = within_is _ b _ p in
     let m : 1 * 10 ^ length d ≤ worth b * 10 ^ length d = mul-le-mul_right (10 ^ length d) (omega (arith, w.0)) in
     let k : length (b ∷ d) - 1 ≡ length d = omega arith in
     rw (k) (omega (arith, value_first b d, m))
 
-some : {d : List ℕ} → NoZeroInFront d → 1 ≤ length d
-some (leading p q) = omega arith
-
--- of two quotients with rests the quotients are equal, and so are the rests
+-- with the larger quotient and rests below the divisor a number is larger
 apart : (p x y u v : ℕ) → x < y → u < p → x * p + u ≡ y * p + v → ⊥
 apart p x y u v h l e = let m : suc x * p ≤ y * p = mul-le-mul_right p h in omega (arith, m)
+
+-- two numbers of which none is below the other
+equal : (a b : ℕ) → (a < b → ⊥) → (b < a → ⊥) → a ≡ b
+equal a b f g =
+    by_test (ltb a b) (λ t. absurd (f (ltb-true a b t)))
+    (λ t. by_test (ltb b a) (λ r. absurd (g (ltb-true b a r))) (λ r. omega (arith, ltb-false a b t, ltb-false b a r)))
 
 same_digits : (d e : List ℕ) → digits d ≡ true → digits e ≡ true → length d ≡ length e → value 0 d ≡ value 0 e → d ≡ e
 same_digits [] [] p q l h = refl
@@ -103,9 +109,8 @@ same_digits (b ∷ d) (c ∷ e) p q l h =
     let u : value 0 d < 10 ^ length d = value_below d db.1 in
     let v : value 0 e < 10 ^ length d = rw (k) (value_below e dc.1) in
     let w : worth b ≡ worth c =
-    by_test (leb (suc (worth b)) (worth c)) (λ t. absurd (apart (10 ^ length d) (worth b) (worth c) (value 0 d) (value 0 e) (leb-true (suc (worth b)) (worth c) t) u s))
-    (λ t. by_test (leb (suc (worth c)) (worth b)) (λ r. absurd (apart (10 ^ length d) (worth c) (worth b) (value 0 e) (value 0 d) (leb-true (suc (worth c)) (worth b) r) v (sym s)))
-    (λ r. omega (arith, leb-false (suc (worth b)) (worth c) t, leb-false (suc (worth c)) (worth b) r))) in
+    equal (worth b) (worth c) (λ h. apart (10 ^ length d) (worth b) (worth c) (value 0 d) (value 0 e) h u s)
+    (λ h. apart (10 ^ length d) (worth c) (worth b) (value 0 e) (value 0 d) h v (sym s)) in
     let x : value 0 d ≡ value 0 e = omega (arith, rw (w) at s) in
     let y : b ≡ c = omega (arith, w, (within_is 0x30 b 0x39 db.0).0, (within_is 0x30 c 0x39 dc.0).0) in
     rw (y) (ap (λ (r : List ℕ). c ∷ r) (same_digits d e db.1 dc.1 k x))
@@ -117,10 +122,7 @@ shorter d e p q l h =
     omega (arith, value_below d (all p), at_least q, m)
 
 pub unique : (d e : List ℕ) → NoZeroInFront d → NoZeroInFront e → value 0 d ≡ value 0 e → d ≡ e
-unique d e p q h =
-    by_test (leb (suc (length d)) (length e)) (λ t. absurd (shorter d e p q (leb-true (suc (length d)) (length e) t) h))
-    (λ t. by_test (leb (suc (length e)) (length d)) (λ r. absurd (shorter e d q p (leb-true (suc (length e)) (length d) r) (sym h)))
-    (λ r. same_digits d e (all p) (all q) (omega (arith, leb-false (suc (length d)) (length e) t, leb-false (suc (length e)) (length d) r)) h))
+unique d e p q h = same_digits d e (all p) (all q) (equal (length d) (length e) (λ l. shorter d e p q l h) (λ l. shorter e d q p l (sym h))) h
 
 -- ---- the relation and the computation
 
@@ -152,9 +154,6 @@ pub agrees : (z : ℤ) (t : List ℕ) → NumberText z t ↔ (t ≡ signed_text 
 agrees z t = (computes, λ e. rw (e) (related z))
 
 -- ---- read back
-
-pub written_digits : {d : List ℕ} → NoZeroInFront d → Digits d
-written_digits (leading {b} {d} p q) = let w = within_is 0x31 b 0x39 p in one_or_more (within_yes 0x30 b 0x39 (omega (arith, w.0)) w.1) q
 
 -- the text is a numeral of the reader's grammar, which writes the number
 pub numeral_of : {z : ℤ} {t : List ℕ} → NumberText z t → Numeral true t z

@@ -1,6 +1,6 @@
--- The text that a number is written as, as a relation: its decimal digits, "no plus, no zeros in front, no minus zero". The reader's numerals
--- (number: `Decimal.Numeral`) allow all three; of them this is the shortest of a number. Decimal.antt computes it, and the theorem
--- `Rattle.decimal.proofs.Agreement.agrees` says that it is this one. Assumes nothing.
+-- The text that a number is written as, as a relation: its decimal digits with no zeros in front, behind a minus where it is negative (document
+-- 02, No. 4, which writes no plus and no other sign). The reader's numerals (number: `Decimal.Numeral`) may have a plus, zeros in front or a minus
+-- before 0. Decimal.antt computes it, and the theorem `Rattle.decimal.proofs.Agreement.agrees` says that it is this one. Assumes nothing.
 use Rattle.std.specs.Prelude.{◌≡◌, true, List, [], ◌∷◌, ℕ, ℤ, pos}
 use Rattle.text.specs.Digits.{within, digits, value}
 use Rattle.number.specs.Widths.{signed}

@@ -12,10 +12,6 @@ use buffer::put;
 pub fn put_number(z: i64, buffer: &mut [u8], at: usize) -> usize
     ensures { Put at (signed_text z) buffer.old buffer.new result }
 {
-    if z < 0 {
-        let at = put(b"-", buffer, at);
-        digits::put_digits(z.unsigned_abs(), buffer, at)
-    } else {
-        digits::put_digits(z.unsigned_abs(), buffer, at)
-    }
+    let from = if z < 0 { put(b"-", buffer, at) } else { at };
+    digits::put_digits(z.unsigned_abs(), buffer, from)
 }

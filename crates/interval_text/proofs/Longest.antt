@@ -21,17 +21,16 @@ use Rattle.decimal.specs.Decimal.{decimal_in, decimal, signed_text}
 use Rattle.decimal.proofs.Recursion.{in_width}
 use Rattle.rule.specs.Contribution.{Counts, counts, fits}
 use Rattle.interval_text.specs.Text.{part_before, parts, spaced, interval_text}
-use Rattle.interval_text.proofs.Spacing.{tail}
+use Rattle.interval_text.proofs.Spacing.{tail, spaced_first}
 
 -- a part, with the space before it
 one_more : (z : ℤ) (word : String) (l : List (List ℕ)) (k : ℕ) → length (signed_text z) ≤ k
     → length (tail (part_before z word l)) ≤ (2 + k + length (bytes word)) + length (tail l)
-unfolding part_before tail spaced
-one_more z word [] k h =
-    by_test (eqb (nat_abs z) 0) (λ t. rw (t) (omega arith)) (λ t. rw (t) (omega (arith, length-append (signed_text z) (0x20 ∷ bytes word))))
-one_more z word (q ∷ l) k h =
+unfolding part_before tail
+one_more z word l k h =
+    let p = signed_text z ++ (0x20 ∷ bytes word) in
     by_test (eqb (nat_abs z) 0) (λ t. rw (t) (omega arith))
-    (λ t. rw (t) (omega (arith, length-append (signed_text z) (0x20 ∷ bytes word), length-append (signed_text z ++ (0x20 ∷ bytes word)) (0x20 ∷ spaced (q ∷ l)))))
+    (λ t. rw (t, ← spaced_first p l) (omega (arith, length-append (signed_text z) (0x20 ∷ bytes word), length-append p (tail l))))
 
 from_tail : (l : List (List ℕ)) → length (tail l) ≤ 69 → length (spaced l) ≤ 68
 unfolding spaced tail

@@ -40,7 +40,7 @@ unfoldable pub tail : List (List ℕ) → List ℕ
 tail [] = []
 tail (q ∷ l) = 0x20 ∷ spaced (q ∷ l)
 
-spaced_first : (p : List ℕ) (l : List (List ℕ)) → p ++ tail l ≡ spaced (p ∷ l)
+pub spaced_first : (p : List ℕ) (l : List (List ℕ)) → p ++ tail l ≡ spaced (p ∷ l)
 unfolding spaced tail
 spaced_first p [] = append-nil p
 spaced_first p (q ∷ l) = refl
@@ -67,7 +67,7 @@ a_part z word {l} s =
 
 all_parts : (m d n : ℤ) → Some (parts (counts m d n))
 unfolding parts
-all_parts m d n = a_part m "months" (a_part d "days" (a_part n "nanoseconds" none_left))
+all_parts m d n = search (a_part, none_left)
 
 -- ---- what the code puts
 

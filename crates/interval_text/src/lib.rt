@@ -17,6 +17,7 @@ use refusal::Refusal;
 use total::Interval;
 
 // The text of three counts, put into a buffer from its front on, as `buffer::put` puts bytes.
+#[tactic(auto, using(crate::proofs::Longest::held))]
 fn put_counts(months: i32, days: i32, nanos: i64, buffer: &mut [u8]) -> usize
     ensures text { Put 0 (interval_text (counts months days nanos)) buffer.old buffer.new result }
     ensures short { length (interval_text (counts months days nanos)) ≤ 68 }

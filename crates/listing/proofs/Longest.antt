@@ -1,7 +1,7 @@
 -- How long a listing can get: a line has at most 51 bytes and as many as the limit of fraction digits, and there are at most twelve. Assumes
 -- nothing.
-use mathlib.Core.Path.{◌≡◌, refl, sym, ◌∙◌}
-use mathlib.Core.Bool.{true, false}
+use mathlib.Core.Path.{◌≡◌, refl, sym}
+use mathlib.Core.Bool.{true}
 use mathlib.Core.List.{List, [], ◌∷◌, ◌++◌}
 use Rattle.std.specs.Prelude.{Some}
 use Prim.Native.Nat.{ℕ, ◌+◌, ◌*◌, ◌≤◌, ◌<◌}
@@ -9,7 +9,7 @@ use native.Mathlib.Nat.{mul-le-mul_right}
 use native.Mathlib.Omega.{arith}
 use lib.ListN.{length}
 use Rattle.std.proofs.lemmas.List.{length-append}
-use Rattle.text.proofs.Bools.{by_test}
+use Rattle.text.proofs.Bools.{fails}
 use Rattle.utf8.specs.Quoted.{bytes}
 use Rattle.number.specs.Widths.{in_signed}
 use Rattle.buffer.specs.Buffer.{Put}
@@ -20,7 +20,6 @@ use Rattle.amount.proofs.AmountLaws.{amount_value, frac_small}
 use Rattle.decimal.specs.Decimal.{signed_text}
 use Rattle.decimal.proofs.Recursion.{signed_most, in_width}
 use Rattle.refusal.specs.Outcome.{accepted, refused}
-use Rattle.refusal.proofs.Outcomes.{clash}
 use Rattle.unit.specs.declared.IntervalUnit.{IntervalUnit}
 use Rattle.unit.specs.declared.IntervalUnit.TheVariants.{Century, Decade, Year, Month, Week, Day, Hour, Minute, Second, Millisecond, Microsecond, Nanosecond}
 use Rattle.component.specs.Grammar.{Component}
@@ -28,8 +27,8 @@ use Rattle.component.specs.Division.{divide}
 use Rattle.component.specs.Spelled.{unit_for}
 use Rattle.component.proofs.Agreement.{agrees as division}
 use Rattle.rule.specs.Contribution.{Counts}
-use Rattle.rule.specs.Answer.{month_day_nano, on_division, twice}
-use Rattle.rule.proofs.Demand3.{Amounts, no_more, one_more, amounts, Adds, demand3, divided_answer}
+use Rattle.rule.specs.Answer.{month_day_nano, twice}
+use Rattle.rule.proofs.Demand3.{Amounts, no_more, one_more, amounts, Adds, demand3, repeats}
 use Rattle.listing.specs.Names.{name}
 use Rattle.listing.specs.Lines.{line, lines, lines_if, listing}
 use Rattle.listing.proofs.Twelve.{at_most_twelve}
@@ -83,17 +82,12 @@ pub record Listed (n : ℕ) (u : IntervalUnit) (t : List ℕ) : Type 0 where
   pub listing_is : listing n u t ≡ accepted (lines n u components)
   pub longest : length (lines n u components) ≤ 12 * (51 + n)
 
-once : (n : ℕ) (u : IntervalUnit) (t : List ℕ) (d : List Component) (e : Counts) → divide n t ≡ Some d → month_day_nano n u t ≡ accepted e → twice u d ≡ false
-unfolding on_division
-once n u t d e p h =
-    by_test (twice u d) (λ r. let q : on_division n u (Some d) ≡ accepted e = sym (divided_answer n u t p) ∙ h in clash (rw (r) at q)) (λ r. r)
-
 pub of_accepted : (n : ℕ) (u : IntervalUnit) (t : List ℕ) {e : Counts} → 1 ≤ n → month_day_nano n u t ≡ accepted e → Listed n u t
 unfolding listing lines_if
 of_accepted n u t {e} h m =
     let a : Adds n u t e = ((demand3 n u t).acceptance e).0 m in
     let p : divide n t ≡ Some a.division = (division n t a.division).0 a.divides in
-    let k = at_most_twelve u a.division (once n u t a.division e p m) in
+    let k = at_most_twelve u a.division (fails (twice u a.division) (repeats u a.division).1 a.once_each) in
     let l = short_lines n u h (amounts a.divides) in
     record { components = a.division; divided = p; listing_is = rw (m, p) refl; longest = omega (arith, l, mul-le-mul_right (51 + n) k) }
 

@@ -1,6 +1,5 @@
 use mir.Facts.{to_z-of_z}
 use Rattle.std.proofs.Common.{rules}
-use Rattle.interval_text.proofs.Longest.{held}
 use Rattle.interval_text.proofs.Spacing.{not_zero, all_zero, widened}
 use Rattle.interval_text.proofs.put_counts.Goals as goal
 
@@ -9,13 +8,7 @@ returns-then-at-eq0-clause-text c =
     all_zero c.put_part-at.ensures c.put_part-at-2.ensures c.put_part-at-3.ensures (widened c.ranges.months c.from.ensures)
     (widened c.ranges.days c.from-2.ensures) (to_z-of_z c.ranges.nanos) (search rules) c.put.ensures
 
-pub returns-then-at-eq0-clause-short : goal.returns-then-at-eq0-clause-short
-returns-then-at-eq0-clause-short c = held c.ranges.months c.ranges.days c.ranges.nanos
-
 pub returns-clause-text : goal.returns-clause-text
 returns-clause-text c =
     not_zero c.put_part-at.ensures c.put_part-at-2.ensures c.put_part-at-3.ensures (widened c.ranges.months c.from.ensures)
     (widened c.ranges.days c.from-2.ensures) (to_z-of_z c.ranges.nanos) (search rules)
-
-pub returns-clause-short : goal.returns-clause-short
-returns-clause-short c = held c.ranges.months c.ranges.days c.ranges.nanos
