@@ -73,7 +73,8 @@ uint8_t cullpethi_string_to_timestamp_nanos(const uint8_t *text, size_t len, int
 /* A time of day, in nanoseconds since midnight: 09:26:56.123 AM, 23:59:59, 6:00 pm. */
 uint8_t cullpethi_string_to_time_nanoseconds(const uint8_t *text, size_t len, int64_t *nanos);
 
-/* A site stamp, in nanoseconds since 1970-01-01: 2026-03-01T06:30:00Z, with a point and 1 to 9 digits if need be. */
+/* A site stamp, in nanoseconds since 1970-01-01: 2026-03-01T06:30:00Z, with a point and 1 to 9 digits if need be; second 60
+   only as 23:59:60 on 30 June or 31 December. */
 uint8_t cullpethi_site_stamp(const uint8_t *text, size_t len, int64_t *nanos);
 
 /* A timestamp column: a stamp, as given or trimmed, in nanoseconds. */

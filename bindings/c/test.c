@@ -150,7 +150,11 @@ static void stamps(void) {
     REFUSED(string_to_time_nanoseconds, "1234", CULLPETHI_TIME_OF_DAY);
     REFUSED(string_to_time_nanoseconds, "\xC0", CULLPETHI_NOT_UTF8);
     IS64(site_stamp, "1970-01-01T00:00:01.000000001Z", 1000000001);
+    IS64(site_stamp, "2016-12-31T23:59:60Z", 1483228800000000000);
+    IS64(site_stamp, "2015-06-30T23:59:60.5Z", 1435708800500000000);
     REFUSED(site_stamp, "1970-01-01T00:00:01", CULLPETHI_SITE_STAMP);
+    REFUSED(site_stamp, "2015-07-31T23:59:60Z", CULLPETHI_SITE_STAMP);
+    REFUSED(site_stamp, "2015-06-31T23:59:60Z", CULLPETHI_DATE);
     REFUSED(site_stamp, "1970-01-01T00:00:01+", CULLPETHI_TAIL);
 }
 

@@ -39,6 +39,14 @@ fn stamps() {
         Ok(1_000_000_001)
     );
     assert_eq!(site_stamp("1970-01-01T00:00:01"), Err(Refusal::SiteStamp));
+    assert_eq!(
+        site_stamp("2015-06-30T23:59:60.5Z"),
+        Ok(1_435_708_800_500_000_000)
+    );
+    assert_eq!(
+        site_stamp("2015-07-31T23:59:60.5Z"),
+        Err(Refusal::SiteStamp)
+    );
 }
 
 #[test]

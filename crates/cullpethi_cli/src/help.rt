@@ -110,7 +110,8 @@ Stamps in UTC, counted from 1970-01-01:
     out.put(
         b"    yyyy-mm-dd, or with T, t or a space behind it hh:mm:ss, hh:mm:ss.f or hhmmss, and then z, Z or nothing.
     f is a digit or more, of which nine count. Hours 0 to 23, minutes 0 to 59, seconds 0 to 60.
-    site_stamp: yyyy-mm-ddThh:mm:ssZ alone, or with .f of 1 to 9 digits, and second 60 only as 23:59:60.
+    site_stamp: yyyy-mm-ddThh:mm:ssZ alone, or with .f of 1 to 9 digits, and second 60 only as 23:59:60
+        on 30 June or 31 December.
 ",
     );
 }

@@ -1,8 +1,8 @@
 -- The site stamps of the relation are those that the computation accepts, with the same value, which is the plain reader's.
 -- Assumes nothing.
 use mathlib.Core.Path.{◌≡◌, refl, sym, ap, ◌∙◌, subst}
-use mathlib.Core.Bool.{Bool, true, false, cond, ◌&&◌, false≢true}
-use mathlib.Core.Logic.{inr, ◌↔◌}
+use mathlib.Core.Bool.{Bool, true, false, cond, ◌&&◌, ◌||◌, false≢true}
+use mathlib.Core.Logic.{inr, ⊎_elim, ◌↔◌}
 use mathlib.Core.List.{List, [], ◌∷◌, ◌++◌, append_assoc, append-nil}
 use Prim.Native.Nat.{ℕ, ◌+◌, ◌-◌, ◌≤◌, ◌<◌}
 use native.Mathlib.Omega.{arith}
@@ -11,19 +11,20 @@ use lib.ListN.{length, get_or, drop, length-append, get_or-eq_default}
 use lib.IntN.{ℤ}
 use borrow.Author.Tests.{eqb-true, eq-eqb, le-leb, leb-true}
 use Rattle.refusal.specs.Outcome.{Outcome, accepted, refused, and_then}
-use Rattle.text.specs.Digits.{is_digit, value, two_at}
-use Rattle.text.proofs.Bools.{and_left, and_right, by_test, both_ways}
+use Rattle.text.specs.Digits.{is_digit, value, two_digits, two_at}
+use Rattle.text.proofs.Bools.{and_left, and_right, by_test, both_ways, or_cases}
+use Rattle.text.proofs.Logic.{both}
 use Rattle.clock.specs.Clock.{Clock, since_midnight}
 use Rattle.clock.specs.Grammar.{Figures, Secfrac, no_fraction, fraction}
 use Rattle.refusal.proofs.Outcomes.{clash}
 use Rattle.text.proofs.DigitLists.{two_value}
 use Rattle.text.proofs.Places.{not_sign, last_of}
-use Rattle.clock.proofs.Figures.{by_two, by_fields, size_of, seconds_end}
-use Rattle.stamp_text.specs.Grammar.{Ymd, FullDate, PartialTime, colons, basic, capital, Ending, none_given, capital_z, small_z, Stamp, date_alone, date_time}
+use Rattle.clock.proofs.Figures.{by_two, by_four, by_fields, size_of, seconds_end}
+use Rattle.stamp_text.specs.Grammar.{Ymd, FullDate, full_date, PartialTime, colons, basic, capital, Ending, none_given, capital_z, small_z, Stamp, date_alone, date_time}
 use Rattle.stamp_text.specs.Answer.{has_colons, stamp_nanos}
 use Rattle.datetime.specs.Moment.{moment, instant}
 use Rattle.stamp_text.specs.Meaning.{names, Reads, reads}
-use Rattle.site.specs.Site.{SiteStamp, site, SiteReads, site_reads, is_leap, is_site, site_nanos}
+use Rattle.site.specs.Site.{LeapSecond, june, december, SiteStamp, site, SiteReads, site_reads, is_leap_day, is_leap, is_site, site_nanos}
 use Rattle.stamp_text.proofs.Agreement.{seam, date_size, read_as}
 
 -- ---- a site stamp is a stamp, and passes the test
@@ -48,19 +49,60 @@ secfrac_size : {x f : List ℕ} → Secfrac x f → (length x ≤ length f + 1) 
 secfrac_size no_fraction = omega arith
 secfrac_size (fraction p q) = omega arith
 
--- second 60 only as 23:59:60, as a test and as a fact
-leap_test : (h m s : ℕ) → (s ≡ 60 → (h ≡ 23) × (m ≡ 59)) → is_leap h m s ≡ true
-leap_test h m s l =
+-- ---- second 60 only as 23:59:60 on 30 June or 31 December, as a test and as a fact
+
+-- month and day of a text that begins with a date
+record DateTests (t : List ℕ) (m d : ℕ) : Type 0 where
+  month : two_at t 5 ≡ m
+  day : two_at t 8 ≡ d
+  month_digits : two_digits t 5 ≡ true
+  day_digits : two_digits t 8 ≡ true
+
+date_tests : {a : List ℕ} {d : Ymd} → FullDate a d → (r : List ℕ) → DateTests (a ++ r) d.month d.day
+date_tests (full_date y m d p q s) r =
+    by_four (λ y. DateTests ((y ++ (0x2D ∷ (m ++ (0x2D ∷ d)))) ++ r) (value 0 m) (value 0 d))
+    (λ a b c e fa fb fc fe.
+    by_two (λ m. DateTests (a ∷ b ∷ c ∷ e ∷ 0x2D ∷ ((m ++ (0x2D ∷ d)) ++ r)) (value 0 m) (value 0 d))
+    (λ g h fg fh.
+    by_two (λ d. DateTests (a ∷ b ∷ c ∷ e ∷ 0x2D ∷ g ∷ h ∷ 0x2D ∷ (d ++ r)) (value 0 (g ∷ h ∷ [])) (value 0 d))
+    (λ i j fi fj. record { month = sym (two_value g h); day = sym (two_value i j); month_digits = rw (fg, fh); day_digits = rw (fi, fj) }) d s) m q) y p
+
+leap_day_of : {a : List ℕ} {d : Ymd} → FullDate a d → (r : List ℕ) → is_leap_day (a ++ r) ≡ (eqb d.month 6 && eqb d.day 30) || (eqb d.month 12 && eqb d.day 31)
+unfolding is_leap_day
+leap_day_of f r = let x = date_tests f r in rw (x.month_digits, x.day_digits, x.month, x.day)
+
+-- the day of a leap second passes the test; it is 23:59
+leap_day : {a : List ℕ} {d : Ymd} {h m : ℕ} → FullDate a d → (r : List ℕ) → LeapSecond d h m → (is_leap_day (a ++ r) ≡ true) × ((h ≡ 23) × (m ≡ 59))
+leap_day f r (june y) = (leap_day_of f r, (refl, refl))
+leap_day f r (december y) = (leap_day_of f r, (refl, refl))
+
+-- and 23:59 of a day that passes is a leap second's
+on_day : {d : Ymd} {h m : ℕ} (mo da : ℕ) → ((y : ℕ) → LeapSecond (record { year = y; month = mo; day = da }) 23 59) → h ≡ 23 → m ≡ 59 → eqb d.month mo && eqb d.day da ≡ true → LeapSecond d h m
+on_day {d} {h} {m} mo da l p q e =
+    let f = eqb-true d.month mo (and_left (eqb d.month mo) (eqb d.day da) e) in
+    let g = eqb-true d.day da (and_right (eqb d.month mo) (eqb d.day da) e) in
+    let w : LeapSecond (record { year = d.year; month = d.month; day = d.day }) h m = rw (p, q, f, g) (l d.year) in
+    w
+
+day_of_leap : {a : List ℕ} {d : Ymd} {h m : ℕ} → FullDate a d → (r : List ℕ) → h ≡ 23 → m ≡ 59 → is_leap_day (a ++ r) ≡ true → LeapSecond d h m
+day_of_leap {d = d} f r p q e =
+    ⊎_elim (on_day 6 30 june p q) (on_day 12 31 december p q)
+    (or_cases (eqb d.month 6 && eqb d.day 30) (eqb d.month 12 && eqb d.day 31) (sym (leap_day_of f r) ∙ e))
+
+leap_test : {a : List ℕ} {d : Ymd} (h m s : ℕ) → FullDate a d → (r : List ℕ) → (s ≡ 60 → LeapSecond d h m) → is_leap (is_leap_day (a ++ r)) h m s ≡ true
+leap_test h m s f r l =
     by_test (eqb s 60)
-    (λ e. let k = l (eqb-true s 60 e) in rw (e, eq-eqb h 23 k.0, eq-eqb m 59 k.1))
+    (λ e. let k = leap_day f r (l (eqb-true s 60 e)) in rw (e, k.0, eq-eqb h 23 k.1.0, eq-eqb m 59 k.1.1))
     (λ e. rw e)
 
-leap_fact : (h m s : ℕ) → is_leap h m s ≡ true → s ≡ 60 → (h ≡ 23) × (m ≡ 59)
-leap_fact h m s e p =
-    let q : eqb h 23 && eqb m 59 ≡ true = rw (eq-eqb s 60 p) at e in
-    (eqb-true h 23 (and_left (eqb h 23) (eqb m 59) q), eqb-true m 59 (and_right (eqb h 23) (eqb m 59) q))
+leap_fact : {a : List ℕ} {d : Ymd} (h m s : ℕ) → FullDate a d → (r : List ℕ) → is_leap (is_leap_day (a ++ r)) h m s ≡ true → s ≡ 60 → LeapSecond d h m
+leap_fact {a} h m s f r e p =
+    let q : eqb h 23 && (eqb m 59 && is_leap_day (a ++ r)) ≡ true = rw (eq-eqb s 60 p) at e in
+    let u = both (eqb h 23) (eqb m 59 && is_leap_day (a ++ r)) q in
+    let v = both (eqb m 59) (is_leap_day (a ++ r)) u.1 in
+    day_of_leap f r (eqb-true h 23 u.0) (eqb-true m 59 v.0) v.1
 
--- the size and the last byte of a date, a separator, a time with colons, and what follows
+-- ---- the size and the last byte of a date, a separator, a time with colons, and what follows
 module _ {a h m s x f : List ℕ} {d : Ymd} (p : FullDate a d) (q : Figures 2 h) (r : Figures 2 m) (u : Figures 2 s) (v : Secfrac x f) (b : ℕ) where
   abbrev body : List ℕ
   body = h ++ (0x3A ∷ (m ++ (0x3A ∷ (s ++ x))))
@@ -102,7 +144,7 @@ site_test_lem (site a h m s x f p q r u v n l) =
       y.hour,
       y.minute,
       y.second,
-      leap_test (value 0 h) (value 0 m) (value 0 s) l,
+      leap_test (value 0 h) (value 0 m) (value 0 s) p (0x54 ∷ ((h ++ (0x3A ∷ (m ++ (0x3A ∷ (s ++ x))))) ++ e)) l,
     )
 
 -- ---- a stamp that passes the test is a site stamp
@@ -119,12 +161,12 @@ record Passed (t : List ℕ) : Type 0 where
   colon : has_colons (drop 11 t) ≡ true
   short : length t ≤ 30
   last : eqb (get_or t (length t - 1) 0) 0x5A ≡ true
-  leap : is_leap (two_at (drop 11 t) 0) (two_at (drop 11 t) 3) (two_at (drop 11 t) 6) ≡ true
+  leap : is_leap (is_leap_day t) (two_at (drop 11 t) 0) (two_at (drop 11 t) 3) (two_at (drop 11 t) 6) ≡ true
 
 passed : (t : List ℕ) → is_site t ≡ true → Passed t
 unfolding is_site
 passed t e =
-    let z : Bool = is_leap (two_at (drop 11 t) 0) (two_at (drop 11 t) 3) (two_at (drop 11 t) 6) in
+    let z : Bool = is_leap (is_leap_day t) (two_at (drop 11 t) 0) (two_at (drop 11 t) 3) (two_at (drop 11 t) 6) in
     let y : Bool = eqb (get_or t (length t - 1) 0) 0x5A in
     let p = and_right (eqb (get_or t 10 0) 0x54) (has_colons (drop 11 t) && (leb (length t) 30 && (y && z))) e in
     let q = and_right (has_colons (drop 11 t)) (leb (length t) 30 && (y && z)) p in
@@ -166,7 +208,7 @@ site_time {a} {d = d} k p (colons h m s x f q r u v) capital_z y =
     let e : k ≡ 0x54 = eqb-true k 0x54 (rw (seam p k ((h ++ (0x3A ∷ (m ++ (0x3A ∷ (s ++ x))))) ++ (0x5A ∷ []))).0 at y.separator) in
     rw e (site a h m s x f p q r u v
     (omega (arith, y.short, size p q r u v k (0x5A ∷ []), secfrac_size v))
-    (leap_fact (value 0 h) (value 0 m) (value 0 s) (rw (w.hour, w.minute, w.second) at y.leap)))
+    (leap_fact (value 0 h) (value 0 m) (value 0 s) p _ (rw (w.hour, w.minute, w.second) at y.leap)))
 site_time {a} {n = n} k p (basic h m s q r u) e y =
     both_ways (has_colons (drop 11 (a ++ (k ∷ ((h ++ (m ++ s)) ++ n))))) (rw ((seam p k ((h ++ (m ++ s)) ++ n)).1, whole) (no_colons h m (s ++ n) q r)) y.colon
   where

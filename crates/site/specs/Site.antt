@@ -1,11 +1,12 @@
 -- The site stamp (document 01, added to what the Rust reads): yyyy-mm-ddThh:mm:ssZ with capital letters, and perhaps a point and 1 to 9
--- digits behind the seconds; second 60 only as 23:59:60. Its value is the plain reader's; 12 is refused after the plain reader's own
--- refusals. `Rattle.site.proofs.SiteAgrees` and `Refusals` join the relations to the computation. Assumes nothing.
+-- digits behind the seconds; second 60 only as 23:59:60 on 30 June or 31 December (document 02, No. 5). Its value is the plain reader's; 12
+-- is refused after the plain reader's own refusals. `Rattle.site.proofs.SiteAgrees` and `Refusals` join the relations to the computation.
+-- Assumes nothing.
 use Rattle.std.specs.Prelude.{◌≡◌, Bool, true, cond, not, ◌&&◌, ◌||◌, List, [], ◌∷◌, ◌++◌, ℕ, ◌-◌, ◌≤◌, eqb, leb, length, get_or, drop, ℤ, pos, Some}
 use Rattle.calendar.specs.Calendar.{civil}
 use Rattle.number.specs.Widths.{in_signed}
 use Rattle.refusal.specs.Outcome.{Outcome, accepted, refused, and_then}
-use Rattle.text.specs.Digits.{value, two_at}
+use Rattle.text.specs.Digits.{value, two_digits, two_at}
 use Rattle.clock.specs.Clock.{Clock, clock, in_range, since_midnight}
 use Rattle.clock.specs.Grammar.{Figures, Secfrac}
 use Rattle.stamp_text.specs.Grammar.{Ymd, FullDate}
@@ -13,10 +14,17 @@ use Rattle.stamp_text.specs.Answer.{has_colons, stamp_nanos}
 use Rattle.datetime.specs.Moment.{moment, instant}
 use Rattle.stamp_text.specs.Meaning.{Reads, Refuses}
 
+-- the date, hour and minute that may have a second 60. RFC 3339, section 5.7: time-second may be 60 at the end of a month in which a leap
+-- second occurs, to date June (XXXX-06-30T23:59:60Z) or December (XXXX-12-31T23:59:60Z). Its appendix D lists those from 1972 to 1998 and
+-- prefers these two months to March and September. Document 02, No. 5: these two days, in any year, and no others
+pub data LeapSecond : Ymd → ℕ → ℕ → Type 0 where
+  june : (y : ℕ) → LeapSecond (record { year = y; month = 6; day = 30 }) 23 59
+  december : (y : ℕ) → LeapSecond (record { year = y; month = 12; day = 31 }) 23 59
+
 -- a text and the date and the time that it writes
 pub data SiteStamp : List ℕ → Ymd → Clock → Type 0 where
   site : (a h m s x f : List ℕ) {d : Ymd} → FullDate a d → Figures 2 h → Figures 2 m → Figures 2 s → Secfrac x f → length f ≤ 9
-      → (value 0 s ≡ 60 → (value 0 h ≡ 23) × (value 0 m ≡ 59))
+      → (value 0 s ≡ 60 → LeapSecond d (value 0 h) (value 0 m))
       → SiteStamp (a ++ (0x54 ∷ ((h ++ (0x3A ∷ (m ++ (0x3A ∷ (s ++ x))))) ++ (0x5A ∷ [])))) d (clock (value 0 h) (value 0 m) (value 0 s) f)
 
 -- a text and the nanoseconds that it is read as
@@ -32,9 +40,15 @@ pub data SiteRefuses : List ℕ → ℕ → Type 0 where
 
 -- ---- the computation
 
--- second 60 only as 23:59:60
-abbrev pub is_leap : ℕ → ℕ → ℕ → Bool
-is_leap h m s = not (eqb s 60) || (eqb h 23 && eqb m 59)
+-- month and day of a text that begins with a date: 30 June or 31 December
+unfoldable pub is_leap_day : List ℕ → Bool
+is_leap_day t =
+    two_digits t 5 &&
+    (two_digits t 8 && ((eqb (two_at t 5) 6 && eqb (two_at t 8) 30) || (eqb (two_at t 5) 12 && eqb (two_at t 8) 31)))
+
+-- second 60 only as 23:59:60 on such a day
+abbrev pub is_leap : Bool → ℕ → ℕ → ℕ → Bool
+is_leap day h m s = not (eqb s 60) || (eqb h 23 && (eqb m 59 && day))
 
 -- a text that the plain reader accepts is a site stamp: T at byte 10, colons, at most 30 bytes (20, a point and 9 digits), Z at the end
 unfoldable pub is_site : List ℕ → Bool
@@ -42,7 +56,7 @@ is_site t =
     eqb (get_or t 10 0) 0x54 &&
     (has_colons (drop 11 t) &&
     (leb (length t) 30 &&
-    (eqb (get_or t (length t - 1) 0) 0x5A && is_leap (two_at (drop 11 t) 0) (two_at (drop 11 t) 3) (two_at (drop 11 t) 6))))
+    (eqb (get_or t (length t - 1) 0) 0x5A && is_leap (is_leap_day t) (two_at (drop 11 t) 0) (two_at (drop 11 t) 3) (two_at (drop 11 t) 6))))
 
 -- 12: the plain stamp reader accepts the text but it is no site stamp
 abbrev pub site_nanos : List ℕ → Outcome ℤ

@@ -3,10 +3,10 @@
 
 ghost use Rattle.std.specs.Prelude.{◌≡◌};
 ghost use Rattle.refusal.specs.Outcome.{outcome};
-ghost use Rattle.site.specs.Site.{is_site, site_nanos};
+ghost use Rattle.site.specs.Site.{is_leap_day, is_site, site_nanos};
 
 use refusal::Refusal;
-use text::digits::{CAPITAL_T, CAPITAL_Z, digit};
+use text::digits::{CAPITAL_T, CAPITAL_Z, digit, two};
 use timestamp::stamp;
 
 // The plain reader's value, if the text is a site stamp.
@@ -36,5 +36,16 @@ fn is_site(s: &[u8]) -> bool
     if digit(s[10]) != CAPITAL_T || digit(s[n - 1]) != CAPITAL_Z {
         return false;
     }
-    t.second != 60 || t.hour == 23 && t.minute == 59
+    t.second != 60 || t.hour == 23 && (t.minute == 59 && is_leap_day(s))
+}
+
+// Of a text that begins with a date: whether it is 30 June or 31 December, the ends of months that had leap seconds.
+#[tactic(auto, unfolding(crate::specs::Site::is_leap_day))]
+fn is_leap_day(s: &[u8]) -> bool
+    ensures { result ≡ is_leap_day s.now }
+{
+    matches!(
+        (two(s, 5), two(s, 8)),
+        (Some(6), Some(30)) | (Some(12), Some(31))
+    )
 }

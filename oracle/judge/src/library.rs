@@ -10,6 +10,7 @@ pub mod raw {
     extern "C" {
         pub fn cullpethi_string_to_timestamp_nanos(text: *const u8, len: usize, out: &mut i64) -> u8;
         pub fn cullpethi_string_to_time_nanoseconds(text: *const u8, len: usize, out: &mut i64) -> u8;
+        pub fn cullpethi_site_stamp(text: *const u8, len: usize, out: &mut i64) -> u8;
         pub fn cullpethi_parse_timestamp_nanosecond(text: *const u8, len: usize, out: &mut i64) -> u8;
         pub fn cullpethi_parse_timestamp_microsecond(text: *const u8, len: usize, out: &mut i64) -> u8;
         pub fn cullpethi_parse_timestamp_millisecond(text: *const u8, len: usize, out: &mut i64) -> u8;
@@ -143,7 +144,11 @@ pub fn told(reader: Reader, s: &[u8]) -> Told {
     }
 }
 
-/// The same without the place.
+pub fn site_stamp(s: &[u8]) -> Answer {
+    wide(cullpethi_site_stamp, (s.as_ptr(), s.len())).0
+}
+
+/// The same as `told`, without the place.
 pub fn library(reader: Reader, s: &[u8]) -> Answer {
     told(reader, s).0
 }

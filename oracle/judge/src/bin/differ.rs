@@ -1,11 +1,12 @@
 //! differ SEED COUNT: the Rust and the library on the same texts, COUNT for each family and besides all short texts over small alphabets,
-//! COUNT / 4 more intervals with a fault, and the listing of each interval; then COUNT / 4 intervals and extreme ones printed; then whole
-//! columns, COUNT / 20 of each of the ten.
+//! COUNT / 4 more intervals with a fault, and the listing of each interval; of each stamp, and of more about second 60, the site stamp; then
+//! COUNT / 4 intervals and extreme ones printed; then whole columns, COUNT / 20 of each of the ten.
 use judge::column::{accepted, by_library, by_rust, Texts, Whole, COLUMNS};
 use judge::generate::{extremes, Family, Generator};
 use judge::library::told;
 use judge::place::Placed;
 use judge::printing::Printings;
+use judge::site::{on_each_day, Sites};
 use judge::*;
 
 const STAMPS: [Reader; 7] = [
@@ -85,11 +86,12 @@ fn compare(reader: Reader, placed: &Placed, n: &mut Counts) {
     }
 }
 
-/// The counts of a family's readers, in their order, and of the listings of its texts.
+/// The counts of a family's readers, in their order, of the listings of its texts, and of these as site stamps.
 #[derive(Default)]
 struct Counted {
     readers: [Counts; 7],
     listings: Printings,
+    sites: Sites,
 }
 
 fn on_all(family: Family, g: &mut Generator, text: &[u8], n: &mut Counted) {
@@ -103,6 +105,9 @@ fn on_all(family: Family, g: &mut Generator, text: &[u8], n: &mut Counted) {
             }
             _ => compare(*reader, &placed, counts),
         }
+    }
+    if family == Family::Stamp {
+        n.sites.site(text);
     }
 }
 
@@ -267,8 +272,10 @@ fn compare_family(family: Family, seed: u64, count: u64) -> [u64; 2] {
         let text = g.text(family);
         on_all(family, &mut g, &text, &mut generated);
     }
-    if family == Family::Interval {
-        faulty(count / 4, &mut g, &mut all);
+    match family {
+        Family::Interval => faulty(count / 4, &mut g, &mut all),
+        Family::Stamp => on_each_day(|text| on_all(family, &mut g, text, &mut all)),
+        Family::Time | Family::Date => (),
     }
     let mut n = sum(&all);
     n += sum(&generated);
@@ -277,8 +284,15 @@ fn compare_family(family: Family, seed: u64, count: u64) -> [u64; 2] {
         n.compared, n.accepted, n.not_utf8, n.number_untold, n.differ
     );
     println!("  accepted of the generated: {}", shares(family, &generated));
-    let mut l = all.listings;
+    let (mut l, mut s) = (all.listings, all.sites);
     l += generated.listings;
+    s += generated.sites;
+    if family == Family::Stamp {
+        println!(
+            "Site stamps: compared {}, accepted {}, of these at second 60 {}, refused with 12 {}, different {}",
+            s.compared, s.accepted, s.second_60, s.no_site, s.differ
+        );
+    }
     if family == Family::Interval {
         let [of_8, of_9, of_10] = n.places;
         println!("  places compared: {} (of 8 {of_8}, of 9 {of_9}, of 10 {of_10})", of_8 + of_9 + of_10);
@@ -287,7 +301,7 @@ fn compare_family(family: Family, seed: u64, count: u64) -> [u64; 2] {
             l.compared, l.printed, l.refused, l.too_short, l.differ
         );
     }
-    [n.compared + l.compared, n.differ + l.differ]
+    [n.compared + l.compared + s.compared, n.differ + l.differ + s.differ]
 }
 
 fn main() {
