@@ -19,7 +19,7 @@ use Rattle.clock.specs.Grammar.{Figures, Secfrac, no_fraction, fraction}
 use Rattle.refusal.proofs.Outcomes.{clash}
 use Rattle.text.proofs.DigitLists.{two_value}
 use Rattle.text.proofs.Places.{not_sign, last_of}
-use Rattle.clock.proofs.Figures.{by_two, by_four, by_fields, size_of, seconds_end}
+use Rattle.clock.proofs.Figures.{by_two, by_four, by_fields, two_figures, size_of, seconds_end}
 use Rattle.stamp_text.specs.Grammar.{Ymd, FullDate, full_date, PartialTime, colons, basic, capital, Ending, none_given, capital_z, small_z, Stamp, date_alone, date_time}
 use Rattle.stamp_text.specs.Answer.{has_colons, stamp_nanos}
 use Rattle.datetime.specs.Moment.{moment, instant}
@@ -32,18 +32,28 @@ use Rattle.stamp_text.proofs.Agreement.{seam, date_size, read_as}
 is_plain : {t : List ℕ} {d : Ymd} {c : Clock} → SiteStamp t d c → Stamp t d c
 is_plain (site a h m s x f p q r u v n l) = date_time a _ (0x5A ∷ []) 0x54 p capital (colons h m s x f q r u v) capital_z
 
--- the time of a site stamp, of which the seconds are the last two digits before the fraction
-record TimeTests (u : List ℕ) (h m s : ℕ) : Type 0 where
-  shape : has_colons u ≡ true
-  hour : two_at u 0 ≡ h
-  minute : two_at u 3 ≡ m
-  second : two_at u 6 ≡ s
+-- three numbers of two digits with a byte c between, as a time has them, and a date behind its century
+record Fields (c : ℕ) (u : List ℕ) (h m s : ℕ) : Type 0 where
+  digits : (two_digits u 0 ≡ true) × ((two_digits u 3 ≡ true) × (two_digits u 6 ≡ true))
+  between : (get_or u 2 0 ≡ c) × (get_or u 5 0 ≡ c)
+  first : two_at u 0 ≡ h
+  second : two_at u 3 ≡ m
+  third : two_at u 6 ≡ s
 
-time_tests : (h m s r : List ℕ) → Figures 2 h → Figures 2 m → Figures 2 s → TimeTests (h ++ (0x3A ∷ (m ++ (0x3A ∷ (s ++ r))))) (value 0 h) (value 0 m) (value 0 s)
-time_tests h m s r p q u =
-    by_fields (λ h m s. TimeTests (h ++ (0x3A ∷ (m ++ (0x3A ∷ (s ++ r))))) (value 0 h) (value 0 m) (value 0 s))
-    (λ a b c d g i fa fb fc fd fg fi. record { shape = rw (fa, fb, fc, fd, fg, fi); hour = sym (two_value a b); minute = sym (two_value c d); second = sym (two_value g i) })
+fields : (c : ℕ) (h m s r : List ℕ) → Figures 2 h → Figures 2 m → Figures 2 s → Fields c (h ++ (c ∷ (m ++ (c ∷ (s ++ r))))) (value 0 h) (value 0 m) (value 0 s)
+fields c h m s r p q u =
+    by_fields (λ h m s. Fields c (h ++ (c ∷ (m ++ (c ∷ (s ++ r))))) (value 0 h) (value 0 m) (value 0 s))
+    (λ a b d e g i fa fb fd fe fg fi. record {
+      digits = (rw (fa, fb), (rw (fd, fe), rw (fg, fi)));
+      between = (refl, refl);
+      first = sym (two_value a b);
+      second = sym (two_value d e);
+      third = sym (two_value g i);
+    })
     h m s p q u
+
+colons_lem : {u : List ℕ} {h m s : ℕ} → Fields 0x3A u h m s → has_colons u ≡ true
+colons_lem x = rw (x.digits.0, x.between.0, x.digits.1.0, x.between.1, x.digits.1.1)
 
 secfrac_size : {x f : List ℕ} → Secfrac x f → (length x ≤ length f + 1) × (length f ≤ length x - 1)
 secfrac_size no_fraction = omega arith
@@ -51,56 +61,38 @@ secfrac_size (fraction p q) = omega arith
 
 -- ---- second 60 only as 23:59:60 on 30 June or 31 December, as a test and as a fact
 
--- month and day of a text that begins with a date
-record DateTests (t : List ℕ) (m d : ℕ) : Type 0 where
-  month : two_at t 5 ≡ m
-  day : two_at t 8 ≡ d
-  month_digits : two_digits t 5 ≡ true
-  day_digits : two_digits t 8 ≡ true
-
-date_tests : {a : List ℕ} {d : Ymd} → FullDate a d → (r : List ℕ) → DateTests (a ++ r) d.month d.day
-date_tests (full_date y m d p q s) r =
-    by_four (λ y. DateTests ((y ++ (0x2D ∷ (m ++ (0x2D ∷ d)))) ++ r) (value 0 m) (value 0 d))
-    (λ a b c e fa fb fc fe.
-    by_two (λ m. DateTests (a ∷ b ∷ c ∷ e ∷ 0x2D ∷ ((m ++ (0x2D ∷ d)) ++ r)) (value 0 m) (value 0 d))
-    (λ g h fg fh.
-    by_two (λ d. DateTests (a ∷ b ∷ c ∷ e ∷ 0x2D ∷ g ∷ h ∷ 0x2D ∷ (d ++ r)) (value 0 (g ∷ h ∷ [])) (value 0 d))
-    (λ i j fi fj. record { month = sym (two_value g h); day = sym (two_value i j); month_digits = rw (fg, fh); day_digits = rw (fi, fj) }) d s) m q) y p
-
 leap_day_of : {a : List ℕ} {d : Ymd} → FullDate a d → (r : List ℕ) → is_leap_day (a ++ r) ≡ (eqb d.month 6 && eqb d.day 30) || (eqb d.month 12 && eqb d.day 31)
 unfolding is_leap_day
-leap_day_of f r = let x = date_tests f r in rw (x.month_digits, x.day_digits, x.month, x.day)
+leap_day_of (full_date y m d p q s) r =
+    by_four (λ y. is_leap_day ((y ++ (0x2D ∷ (m ++ (0x2D ∷ d)))) ++ r) ≡ (eqb (value 0 m) 6 && eqb (value 0 d) 30) || (eqb (value 0 m) 12 && eqb (value 0 d) 31))
+    (λ a b c e fa fb fc fe.
+    let x = fields 0x2D (c ∷ e ∷ []) m d r (two_figures c e fc fe) q s in
+    let w : (m ++ (0x2D ∷ d)) ++ r ≡ m ++ (0x2D ∷ (d ++ r)) = simp append_assoc in
+    rw (w, x.digits.1.0, x.digits.1.1, x.second, x.third))
+    y p
 
--- the day of a leap second passes the test; it is 23:59
-leap_day : {a : List ℕ} {d : Ymd} {h m : ℕ} → FullDate a d → (r : List ℕ) → LeapSecond d h m → (is_leap_day (a ++ r) ≡ true) × ((h ≡ 23) × (m ≡ 59))
-leap_day f r (june y) = (leap_day_of f r, (refl, refl))
-leap_day f r (december y) = (leap_day_of f r, (refl, refl))
-
--- and 23:59 of a day that passes is a leap second's
-on_day : {d : Ymd} {h m : ℕ} (mo da : ℕ) → ((y : ℕ) → LeapSecond (record { year = y; month = mo; day = da }) 23 59) → h ≡ 23 → m ≡ 59 → eqb d.month mo && eqb d.day da ≡ true → LeapSecond d h m
-on_day {d} {h} {m} mo da l p q e =
-    let f = eqb-true d.month mo (and_left (eqb d.month mo) (eqb d.day da) e) in
-    let g = eqb-true d.day da (and_right (eqb d.month mo) (eqb d.day da) e) in
-    let w : LeapSecond (record { year = d.year; month = d.month; day = d.day }) h m = rw (p, q, f, g) (l d.year) in
-    w
-
-day_of_leap : {a : List ℕ} {d : Ymd} {h m : ℕ} → FullDate a d → (r : List ℕ) → h ≡ 23 → m ≡ 59 → is_leap_day (a ++ r) ≡ true → LeapSecond d h m
-day_of_leap {d = d} f r p q e =
-    ⊎_elim (on_day 6 30 june p q) (on_day 12 31 december p q)
-    (or_cases (eqb d.month 6 && eqb d.day 30) (eqb d.month 12 && eqb d.day 31) (sym (leap_day_of f r) ∙ e))
+leap_second : {a : List ℕ} {d : Ymd} {h m : ℕ} → FullDate a d → (r : List ℕ) → LeapSecond d h m → eqb h 23 && (eqb m 59 && is_leap_day (a ++ r)) ≡ true
+leap_second f r (june y) = leap_day_of f r
+leap_second f r (december y) = leap_day_of f r
 
 leap_test : {a : List ℕ} {d : Ymd} (h m s : ℕ) → FullDate a d → (r : List ℕ) → (s ≡ 60 → LeapSecond d h m) → is_leap (is_leap_day (a ++ r)) h m s ≡ true
-leap_test h m s f r l =
-    by_test (eqb s 60)
-    (λ e. let k = leap_day f r (l (eqb-true s 60 e)) in rw (e, k.0, eq-eqb h 23 k.1.0, eq-eqb m 59 k.1.1))
-    (λ e. rw e)
+leap_test h m s f r l = by_test (eqb s 60) (λ e. rw e (leap_second f r (l (eqb-true s 60 e)))) (λ e. rw e)
+
+-- either day, of any year
+on_day : {d : Ymd} {h m : ℕ} (x y : ℕ) → ((z : ℕ) → LeapSecond (record { year = z; month = x; day = y }) 23 59) → h ≡ 23 → m ≡ 59 → eqb d.month x && eqb d.day y ≡ true → LeapSecond d h m
+on_day {d} {h} {m} x y l p q e =
+    let f = both (eqb d.month x) (eqb d.day y) e in
+    let w : LeapSecond (record { year = d.year; month = d.month; day = d.day }) h m = rw (p, q, eqb-true d.month x f.0, eqb-true d.day y f.1) (l d.year) in
+    w
 
 leap_fact : {a : List ℕ} {d : Ymd} (h m s : ℕ) → FullDate a d → (r : List ℕ) → is_leap (is_leap_day (a ++ r)) h m s ≡ true → s ≡ 60 → LeapSecond d h m
-leap_fact {a} h m s f r e p =
-    let q : eqb h 23 && (eqb m 59 && is_leap_day (a ++ r)) ≡ true = rw (eq-eqb s 60 p) at e in
-    let u = both (eqb h 23) (eqb m 59 && is_leap_day (a ++ r)) q in
+leap_fact {a} {d} h m s f r e p =
+    let u = both (eqb h 23) (eqb m 59 && is_leap_day (a ++ r)) (rw (eq-eqb s 60 p) at e) in
     let v = both (eqb m 59) (is_leap_day (a ++ r)) u.1 in
-    day_of_leap f r (eqb-true h 23 u.0) (eqb-true m 59 v.0) v.1
+    let hour = eqb-true h 23 u.0 in
+    let minute = eqb-true m 59 v.0 in
+    ⊎_elim (on_day 6 30 june hour minute) (on_day 12 31 december hour minute)
+    (or_cases (eqb d.month 6 && eqb d.day 30) (eqb d.month 12 && eqb d.day 31) (sym (leap_day_of f r) ∙ v.1))
 
 -- ---- the size and the last byte of a date, a separator, a time with colons, and what follows
 module _ {a h m s x f : List ℕ} {d : Ymd} (p : FullDate a d) (q : Figures 2 h) (r : Figures 2 m) (u : Figures 2 s) (v : Secfrac x f) (b : ℕ) where
@@ -122,10 +114,10 @@ module _ {a h m s x f : List ℕ} {d : Ymd} (p : FullDate a d) (q : Figures 2 h)
         size_of u,
       )
 
-  tests : (e : List ℕ) → TimeTests (drop 11 (a ++ (b ∷ (body ++ e)))) (value 0 h) (value 0 m) (value 0 s)
+  tests : (e : List ℕ) → Fields 0x3A (drop 11 (a ++ (b ∷ (body ++ e)))) (value 0 h) (value 0 m) (value 0 s)
   tests e =
       let w : body ++ e ≡ h ++ (0x3A ∷ (m ++ (0x3A ∷ (s ++ (x ++ e))))) = simp append_assoc in
-      rw ((seam p b (body ++ e)).1, w) (time_tests h m s (x ++ e) q r u)
+      rw ((seam p b (body ++ e)).1, w) (fields 0x3A h m s (x ++ e) q r u)
 
   end_with : (z : ℕ) → get_or (a ++ (b ∷ (body ++ (z ∷ [])))) (length (a ++ (b ∷ (body ++ (z ∷ [])))) - 1) 0 ≡ z
   end_with z = last_of a ((b ∷ body) ++ (z ∷ [])) (omega arith) ∙ last_of (b ∷ body) (z ∷ []) (omega arith)
@@ -138,12 +130,12 @@ site_test_lem (site a h m s x f p q r u v n l) =
     let e : List ℕ = 0x5A ∷ [] in
     rw (
       (seam p 0x54 ((h ++ (0x3A ∷ (m ++ (0x3A ∷ (s ++ x))))) ++ e)).0,
-      y.shape,
+      colons_lem y,
       le-leb (length (a ++ (0x54 ∷ ((h ++ (0x3A ∷ (m ++ (0x3A ∷ (s ++ x))))) ++ e)))) 30 (omega (arith, size p q r u v 0x54 e)),
       end_with p q r u v 0x54 0x5A,
-      y.hour,
-      y.minute,
+      y.first,
       y.second,
+      y.third,
       leap_test (value 0 h) (value 0 m) (value 0 s) p (0x54 ∷ ((h ++ (0x3A ∷ (m ++ (0x3A ∷ (s ++ x))))) ++ e)) l,
     )
 
@@ -208,7 +200,7 @@ site_time {a} {d = d} k p (colons h m s x f q r u v) capital_z y =
     let e : k ≡ 0x54 = eqb-true k 0x54 (rw (seam p k ((h ++ (0x3A ∷ (m ++ (0x3A ∷ (s ++ x))))) ++ (0x5A ∷ []))).0 at y.separator) in
     rw e (site a h m s x f p q r u v
     (omega (arith, y.short, size p q r u v k (0x5A ∷ []), secfrac_size v))
-    (leap_fact (value 0 h) (value 0 m) (value 0 s) p _ (rw (w.hour, w.minute, w.second) at y.leap)))
+    (leap_fact (value 0 h) (value 0 m) (value 0 s) p _ (rw (w.first, w.second, w.third) at y.leap)))
 site_time {a} {n = n} k p (basic h m s q r u) e y =
     both_ways (has_colons (drop 11 (a ++ (k ∷ ((h ++ (m ++ s)) ++ n))))) (rw ((seam p k ((h ++ (m ++ s)) ++ n)).1, whole) (no_colons h m (s ++ n) q r)) y.colon
   where

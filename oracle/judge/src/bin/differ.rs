@@ -263,6 +263,16 @@ fn intervals(seed: u64, count: u64) -> Printings {
     n
 }
 
+/// Tells the places and the listings of the intervals.
+fn tell_intervals(n: &Counts, l: &Printings) {
+    let [of_8, of_9, of_10] = n.places;
+    println!("  places compared: {} (of 8 {of_8}, of 9 {of_9}, of 10 {of_10})", of_8 + of_9 + of_10);
+    println!(
+        "Listings: compared {}, printed {}, refused {}, buffer too short {}, different {}",
+        l.compared, l.printed, l.refused, l.too_short, l.differ
+    );
+}
+
 /// Compares a family's texts, and tells; how many comparisons there were, and how many differ.
 fn compare_family(family: Family, seed: u64, count: u64) -> [u64; 2] {
     let mut g = Generator::new(seed ^ (family as u64) << 56);
@@ -287,19 +297,13 @@ fn compare_family(family: Family, seed: u64, count: u64) -> [u64; 2] {
     let (mut l, mut s) = (all.listings, all.sites);
     l += generated.listings;
     s += generated.sites;
-    if family == Family::Stamp {
-        println!(
+    match family {
+        Family::Interval => tell_intervals(&n, &l),
+        Family::Stamp => println!(
             "Site stamps: compared {}, accepted {}, of these at second 60 {}, refused with 12 {}, different {}",
             s.compared, s.accepted, s.second_60, s.no_site, s.differ
-        );
-    }
-    if family == Family::Interval {
-        let [of_8, of_9, of_10] = n.places;
-        println!("  places compared: {} (of 8 {of_8}, of 9 {of_9}, of 10 {of_10})", of_8 + of_9 + of_10);
-        println!(
-            "Listings: compared {}, printed {}, refused {}, buffer too short {}, different {}",
-            l.compared, l.printed, l.refused, l.too_short, l.differ
-        );
+        ),
+        Family::Time | Family::Date => (),
     }
     [n.compared + l.compared + s.compared, n.differ + l.differ + s.differ]
 }
