@@ -4,6 +4,7 @@ pub mod Computed
 pub mod DigitLaws
 pub mod Parts
 pub mod Runs
+pub mod Eights
 pub mod Values
 pub mod TrimLaws
 pub mod TrimAgrees

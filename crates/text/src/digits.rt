@@ -1,6 +1,6 @@
 // Digits of a text.
-ghost use Rattle.std.specs.Prelude.{◌≡◌, ◌+◌, ◌≤◌, length, drop, if◌then◌else◌, Some, None};
-ghost use Rattle.text.specs.Digits.{digit_of, run, two_digits, two_at};
+ghost use Rattle.std.specs.Prelude.{◌≡◌, ◌&&◌, ◌+◌, ◌≤◌, leb, length, take, drop, if◌then◌else◌, Some, None};
+ghost use Rattle.text.specs.Digits.{digit_of, digits, run, two_digits, two_at};
 
 // The separators of dates and times as digits: each byte less 48, wrapping, in which form document 01 has them tested too.
 pub const HYPHEN: u8 = 253;
@@ -53,13 +53,33 @@ pub fn run_len(s: &[u8]) -> usize
     s.len()
 }
 
-// Where the digits that stand at a place end.
+// Where the digits that stand at a place end: by eights while the next eight bytes are digits, then one by one.
 pub fn run_end(s: &[u8], from: usize) -> usize
     ensures { (result ≡ from + run (drop from s.now)) × (from ≤ length s.now → result ≤ length s.now) }
 {
-    if from < s.len() {
-        from + run_len(&s[from..])
-    } else {
-        from
+    if s.len() <= from {
+        return from;
     }
+    let mut i = from;
+    while eight_digits(&s[i..]) {
+        i += 8;
+    }
+    i + run_len(&s[i..])
+}
+
+// Whether a text begins with eight digits. By `&`, so that a machine may look at them together.
+fn eight_digits(s: &[u8]) -> bool
+    ensures { result ≡ (leb 8 (length s.now) && digits (take 8 s.now)) }
+{
+    let [a, b, c, d, e, f, g, h, ..] = s else {
+        return false;
+    };
+    (digit(*a) < 10)
+        & (digit(*b) < 10)
+        & (digit(*c) < 10)
+        & (digit(*d) < 10)
+        & (digit(*e) < 10)
+        & (digit(*f) < 10)
+        & (digit(*g) < 10)
+        & (digit(*h) < 10)
 }
