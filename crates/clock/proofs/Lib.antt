@@ -2,3 +2,4 @@
 pub mod Figures
 pub mod Nanos
 pub mod Bounds
+pub mod Held

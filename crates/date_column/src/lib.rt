@@ -7,10 +7,10 @@ ghost use Rattle.date.specs.Answer.{day_named};
 ghost use Rattle.number.specs.Widths.{floor};
 ghost use Rattle.refusal.specs.Outcome.{accepted, and_then, outcome};
 ghost use Rattle.stamp_text.specs.Answer.{datetime};
-ghost use Rattle.datetime.specs.Moment.{moment_of, instant};
-ghost use Rattle.clock.specs.Clock.{nanos_of_day};
+ghost use Rattle.datetime.specs.Moment.{instant};
 ghost use Rattle.date_column.specs.Answer.{millis, date32, date64};
 
+use clock::nanos_of_day;
 use date::days::{parse_date, parse_date_to_days};
 use datetime::NaiveDateTime;
 use refusal::Refusal;
@@ -62,11 +62,8 @@ fn stamp_millis(s: &[u8]) -> Result<i64, Refusal>
 
 // Milliseconds of a day and a time of it, rounded down; the nanoseconds need not fit 64 bits.
 fn timestamp_millis(dt: NaiveDateTime) -> i64
-    requires day_bound { mag dt.day ≤ 4400000 }
-    requires time_bound { nanos_of_day dt.time ≤ 86401000000000 }
-    ensures { result ≡ floor (instant (moment_of dt)) 1000000 }
+    requires { mag dt.day ≤ 4400000 }
+    ensures { result ≡ floor (instant dt) 1000000 }
 {
-    let secs = i64::from(dt.time.secs);
-    let frac = dt.time.frac / 1_000_000;
-    (dt.day * 86_400 + secs) * 1_000 + i64::from(frac)
+    dt.day * 86_400_000 + nanos_of_day(&dt.time) / 1_000_000
 }

@@ -1,20 +1,19 @@
--- A moment, a day and the nanoseconds since its midnight, and its instant; and the moment of a `NaiveDateTime`. Assumes nothing.
+-- A moment, which is a day and a time of it, and its instant. Assumes nothing.
 use Rattle.std.specs.Prelude.{ℕ, ℤ, pos, ◌+ℤ◌, ◌*ℤ◌}
 use Rattle.clock.specs.Clock.{nanos_of_day}
+use Rattle.clock.specs.declared.NaiveTime.{NaiveTime}
 use Rattle.datetime.specs.declared.NaiveDateTime.{NaiveDateTime}
 
--- a day, and the nanoseconds since its midnight
-pub record Moment : Type 0 where
-  pub day : ℤ
-  pub nanos : ℕ
+-- a day, counted from 1970-01-01, and a time of it
+abbrev pub Moment : Type 0
+Moment = NaiveDateTime
 
-abbrev pub moment : ℤ → ℕ → Moment
-moment z n = record { day = z; nanos = n }
+abbrev pub moment : ℤ → NaiveTime → Moment
+moment z t = record { day = z; time = t }
 
--- nanoseconds since 1970-01-01T00:00:00Z
+-- nanoseconds since 1970-01-01T00:00:00Z, of a day and of nanoseconds since its midnight
+abbrev pub instant_at : ℤ → ℕ → ℤ
+instant_at z n = z *ℤ pos 86400000000000 +ℤ pos n
+
 abbrev pub instant : Moment → ℤ
-instant m = m.day *ℤ pos 86400000000000 +ℤ pos m.nanos
-
--- the moment that the code's `NaiveDateTime` holds
-abbrev pub moment_of : NaiveDateTime → Moment
-moment_of x = moment x.day (nanos_of_day x.time)
+instant m = instant_at m.day (nanos_of_day m.time)

@@ -1,11 +1,11 @@
 // A day with a time of it, and the instant that they name.
 #![tactic(auto)]
 
-ghost use Rattle.std.specs.Prelude.{◌≡◌, pos, ◌+ℤ◌, ◌*ℤ◌};
+ghost use Rattle.std.specs.Prelude.{◌≡◌};
 ghost use Rattle.number.specs.Widths.{fit};
-ghost use Rattle.datetime.specs.Moment.{instant, moment_of};
+ghost use Rattle.datetime.specs.Moment.{instant};
 
-use clock::NaiveTime;
+use clock::{NaiveTime, nanos_of_day};
 use number::sign::signed_i64;
 
 // A day, counted from 1970-01-01, and a time of it.
@@ -15,29 +15,19 @@ pub struct NaiveDateTime {
     pub time: NaiveTime,
 }
 
-// Nanoseconds since 1970-01-01, where they fit.
+// Nanoseconds since 1970-01-01, where they fit. The size is put together before the sign, so that the least number is reached.
 pub fn to_timestamp_nanos(dt: NaiveDateTime) -> Option<i64>
-    ensures { result ≡ fit 63 (instant (moment_of dt)) }
+    ensures { result ≡ fit 63 (instant dt) }
 {
     if dt.day < -200_000 || 200_000 < dt.day {
         return None;
     }
-    nanos_of(dt.day * 86_400 + i64::from(dt.time.secs), dt.time.frac)
-}
-
-// Seconds and nanoseconds, as nanoseconds, where they fit. The size is put together before the sign, so that the least number is reached.
-fn nanos_of(secs: i64, nanos: u32) -> Option<i64>
-    ensures { result ≡ fit 63 (secs *ℤ pos 1000000000 +ℤ pos nanos) }
-{
-    let m = secs.unsigned_abs();
-    if 9_300_000_000 < m {
-        return None;
+    let part = nanos_of_day(&dt.time).unsigned_abs();
+    if 0 <= dt.day {
+        return signed_i64(false, dt.day.unsigned_abs() * 86_400_000_000_000 + part);
     }
-    let whole = m * 1_000_000_000;
-    let part = u64::from(nanos);
-    if 0 <= secs {
-        signed_i64(false, whole + part)
-    } else if part <= whole {
+    let whole = dt.day.unsigned_abs() * 86_400_000_000_000;
+    if part <= whole {
         signed_i64(true, whole - part)
     } else {
         signed_i64(false, part - whole)

@@ -1,22 +1,23 @@
 -- What follows the seconds, from byte 19 on, and the time as it is made of its fields. Assumes nothing.
-use Rattle.std.proofs.Common.{◌≡◌, ℕ, ◌+◌, ◌*◌, ◌<◌, true, cond, ◌&&◌, eqb, ltb, List, get_or, take, drop, Option, None, Some, refl, sym, ap, ◌∙◌, arith, lt-ltb, eq-eqb, ne_eqb}
+use Rattle.std.proofs.Common.{◌≡◌, ℕ, ◌+◌, ◌<◌, true, cond, ◌&&◌, eqb, ltb, List, get_or, take, drop, Option, None, Some, refl, sym, ap, ◌∙◌, arith, lt-ltb, eq-eqb, ne_eqb}
 use lib.Dec.{lit<}
 use lib.Seq.{drop-drop}
 use Rattle.text.specs.Digits.{digit_of, run}
 use Rattle.text.proofs.Bools.{by_test}
 use Rattle.text.proofs.TwoDigits.{sign_test}
-use Rattle.clock.specs.Clock.{in_range, nanos_of}
+use Rattle.clock.specs.Clock.{in_range, nanos_of, held}
+use Rattle.clock.specs.declared.NaiveTime.{NaiveTime}
 use Rattle.stamp_text.specs.Answer.{Timed, after_seconds, timed_at}
 
 -- ---- a time and the bytes after it
 
-abbrev pub with_tail : List ℕ → Option ℕ → Option Timed
+abbrev pub with_tail : List ℕ → Option NaiveTime → Option Timed
 with_tail t None = None
-with_tail t (Some n) = Some (record { nanos = n; tail = t })
+with_tail t (Some x) = Some (record { time = x; tail = t })
 
 pub timed_at_lem :
-    (h m s n : ℕ) (t : List ℕ) → n < 1000000000 → {o : Option ℕ} →
-    o ≡ cond (in_range h m s && ltb n 1000000000) (Some (((h * 60 + m) * 60 + s) * 1000000000 + n)) None → with_tail t o ≡ timed_at h m s n t
+    (h m s n : ℕ) (t : List ℕ) → n < 1000000000 → {o : Option NaiveTime} →
+    o ≡ cond (in_range h m s && ltb n 1000000000) (Some (held h m s n)) None → with_tail t o ≡ timed_at h m s n t
 timed_at_lem h m s n t l q = rw (q, lt-ltb n 1000000000 l) (by_test (in_range h m s) (λ e. rw e) (λ e. rw e))
 
 -- ---- d is byte 19, less 48; a point is 254

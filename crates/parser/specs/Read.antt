@@ -2,7 +2,6 @@
 -- Assumes nothing.
 use Rattle.std.specs.Prelude.{cond, List, ℕ, drop, Option, None, Some}
 use Rattle.text.specs.Digits.{two_at}
-use Rattle.clock.specs.Clock.{nanos_of_day}
 use Rattle.clock.specs.declared.NaiveTime.{NaiveTime}
 use Rattle.stamp_text.specs.Answer.{Timed, has_colons, is_basic}
 use Rattle.parser.specs.declared.Fields.{Fields}
@@ -17,5 +16,5 @@ basic_fields_of t = cond (is_basic t) (Some (record { hour = two_at t 0; minute 
 
 -- a time of a text s, and the place where it ends
 abbrev pub ends_at : List ℕ → Option (NaiveTime × ℕ) → Option Timed
-ends_at s (Some x) = Some (record { nanos = nanos_of_day x.0; tail = drop x.1 s })
+ends_at s (Some x) = Some (record { time = x.0; tail = drop x.1 s })
 ends_at s None = None

@@ -1,7 +1,7 @@
 -- The grammar of stamps and the computation agree: a text names a moment exactly where the computation accepts it with that moment, and
 -- it has at most one reading. Assumes nothing.
 use mathlib.Core.Path.{◌≡◌, refl, sym, ap, ◌∙◌, subst}
-use mathlib.Core.Bool.{true, ◌&&◌, ◌||◌, false≢true}
+use mathlib.Core.Bool.{true, cond, ◌&&◌, ◌||◌, false≢true}
 use mathlib.Core.Logic.{⊎_elim, ◌↔◌}
 use mathlib.Core.List.{List, [], ◌∷◌, ◌++◌, append-nil}
 use Rattle.std.specs.Prelude.{Option, None, Some}
@@ -21,15 +21,16 @@ use Rattle.utf8.specs.Utf8.{utf8, ascii}
 use Rattle.text.proofs.Bools.{or_cases, by_test}
 use Rattle.utf8.proofs.Ascii.{ascii_nil, ascii_cons, ascii_append, ascii_utf8}
 use Rattle.text.proofs.Logic.{both}
-use Rattle.clock.specs.Clock.{Clock, nanos_of, since_midnight}
+use Rattle.clock.specs.Clock.{Clock, clock, in_range, nanos_of, since_midnight, held, held_clock}
+use Rattle.clock.proofs.Held.{held_nanos}
 use Rattle.text.proofs.DigitLists.{two_value, four_value}
 use Rattle.text.proofs.Places.{inside, ten}
 use Rattle.clock.proofs.Figures.{by_two, by_four, two_figures, four_figures, ascii_figures, ascii_secfrac}
 use Rattle.stamp_text.specs.Grammar.{Ymd, FullDate, full_date, PartialTime, colons, basic, Separator, capital, small, space, Ending, none_given, capital_z, small_z, Stamp, date_alone, date_time}
 use Rattle.stamp_text.specs.Answer.{is_date, day_of, Timed, time_of, is_ending, is_separator, on_time, after_date, on_date, plain_moment, datetime, in_nanos, stamp_nanos}
-use Rattle.datetime.specs.Moment.{Moment, moment, instant}
+use Rattle.datetime.specs.Moment.{Moment, moment, instant_at, instant}
 use Rattle.stamp_text.specs.Meaning.{Rfc3339, utc, Names, names, Reads, reads}
-use Rattle.stamp_text.proofs.LongestTimes.{Ok, time_read, time_sound, before_ending, of_grammar}
+use Rattle.stamp_text.proofs.LongestTimes.{Ok, if_ok, time_sound, before_ending, of_grammar}
 
 -- ---- a date is read
 
@@ -79,19 +80,48 @@ is_separator_lem capital = refl
 is_separator_lem small = refl
 is_separator_lem space = refl
 
-pub day_read : {t : List ℕ} {d : Ymd} → FullDate t d → (r : List ℕ) (z : ℤ) → civil (pos d.year) d.month d.day ≡ Some z → day_of (t ++ r) ≡ Some z
+day_is : {t : List ℕ} {d : Ymd} → FullDate t d → (r : List ℕ) → day_of (t ++ r) ≡ civil (pos d.year) d.month d.day
 unfolding day_of
-day_read f r z e = let x = date_read f r in rw (x.shape, x.year, x.month, x.day) e
+day_is f r = let x = date_read f r in rw (x.shape, x.year, x.month, x.day)
+
+pub day_read : {t : List ℕ} {d : Ymd} → FullDate t d → (r : List ℕ) (z : ℤ) → civil (pos d.year) d.month d.day ≡ Some z → day_of (t ++ r) ≡ Some z
+day_read f r z e = day_is f r ∙ e
+
+-- what a stamp of the grammar comes to, by its date and by whether its time is in range
+abbrev pub if_in_range : Clock → ℤ → Outcome Moment
+if_in_range c z = cond (in_range c.hour c.minute c.second) (accepted (moment z (held_clock c))) (refused 4)
+
+abbrev pub if_dated : Clock → Option ℤ → Outcome Moment
+if_dated c None = refused 2
+if_dated c (Some z) = if_in_range c z
+
+-- behind a date of the calendar: a time in range or none
+in_time : (e : List ℕ) (c : Clock) (z : ℤ) → is_ending e ≡ true → on_time z (if_ok c e) ≡ if_in_range c z
+in_time e c z q = by_test (in_range c.hour c.minute c.second) (λ ok. rw (ok, q)) (λ no. rw no)
+
+pub stamp_read : {t : List ℕ} {d : Ymd} {c : Clock} → Stamp t d c → plain_moment t ≡ if_dated c (civil (pos d.year) d.month d.day)
+unfolding plain_moment nanos_of value
+stamp_read {d = d} (date_alone {t} f) = by (civil (pos d.year) d.month d.day) (rw append-nil at (day_is f []))
+  where
+    by : (o : Option ℤ) → day_of t ≡ o → on_date t (day_of t) ≡ if_dated (clock 0 0 0 []) o
+    by None e = rw e
+    by (Some z) e = rw (e, (date_read f []).size)
+stamp_read {d = d} {c = c} (date_time a b n s f g p q) = by (civil (pos d.year) d.month d.day) (day_is f (s ∷ (b ++ n)))
+  where
+    t : List ℕ
+    t = a ++ (s ∷ (b ++ n))
+
+    long : length t ≡ 10 → ⊥
+    long h = omega (arith, length-append a (s ∷ (b ++ n)), date_size f)
+
+    by : (o : Option ℤ) → day_of t ≡ o → on_date t (day_of t) ≡ if_dated c o
+    by None e = rw e
+    by (Some z) e =
+        let y = seam f s (b ++ n) in
+        rw (e, ne_eqb (length t) 10 long, y.0, is_separator_lem g, y.1, before_ending p q) (in_time n c z (is_ending_lem q))
 
 pub complete : {t : List ℕ} {m : Moment} → Names t m → plain_moment t ≡ accepted m
-unfolding plain_moment nanos_of value
-complete (names z (date_alone {t} f) e ok) =
-    rw (rw append-nil at (day_read f [] z e), (date_read f []).size)
-complete (names z (date_time a b n s {d} {c} f g p q) e ok) =
-    let x = date_read f (s ∷ (b ++ n)) in
-    let long : length (a ++ (s ∷ (b ++ n))) ≡ 10 → ⊥ = λ h. omega (arith, length-append a (s ∷ (b ++ n)), x.size) in
-    let y = seam f s (b ++ n) in
-    rw (day_read f (s ∷ (b ++ n)) z e, ne_eqb (length (a ++ (s ∷ (b ++ n)))) 10 long, y.0, is_separator_lem g, y.1, time_read (before_ending p q ok), is_ending_lem q)
+complete (names z s e ok) = rw (e, ok) at (stamp_read s)
 
 -- ---- an accepted text is a stamp of the grammar
 
@@ -137,10 +167,10 @@ separator_sound b p =
 
 -- the date is read; what follows is nothing, or a separator, a time and an ending
 module _ (t : List ℕ) (z : ℤ) (x : DateIs t z) (m : Moment) where
-  alone : length t ≡ 10 → accepted (moment z 0) ≡ accepted m → Names t m
+  alone : length t ≡ 10 → accepted (moment z (held 0 0 0 0)) ≡ accepted m → Names t m
   unfolding nanos_of value
   alone h e =
-      let q : moment z 0 ≡ m = cc in
+      let q : moment z (held 0 0 0 0) ≡ m = cc in
       let w : t ≡ x.bytes = x.text ∙ ap (λ (r : List ℕ). x.bytes ++ r) (drop_of_length-le t {i = 10} (omega arith)) ∙ append-nil x.bytes in
       rw (← q, w) (names z (date_alone x.full) x.named refl)
 
@@ -151,8 +181,8 @@ module _ (t : List ℕ) (z : ℤ) (x : DateIs t z) (m : Moment) where
       (λ n.
       let x' = time_sound (drop 11 t) y p in
       let k = of_grammar x'.time in
-      let q : accepted (moment z y.nanos) ≡ accepted m = rw n at e in
-      let v : moment z (since_midnight x'.fields) ≡ m = cc x'.nanos in
+      let q : accepted (moment z y.time) ≡ accepted m = rw n at e in
+      let v : moment z (held_clock x'.fields) ≡ m = cc x'.held_as in
       let long : 10 < length t = omega (arith, ap length x.text, length-append x.bytes (drop 10 t), x.size) in
       let w : t ≡ x.bytes ++ (get_or t 10 0 ∷ (k.bytes ++ y.tail)) =
       x.text ∙ ap (λ (r : List ℕ). x.bytes ++ r) (drop-cons t 10 0 long ∙ ap (λ (r : List ℕ). get_or t 10 0 ∷ r) k.text) in
@@ -238,12 +268,16 @@ read_as t z = (into, back (datetime t) refl)
         (λ f. clash (rw f at p))
     back (refused k) e p = clash p
 
--- every UTC date-time of RFC 3339, of a day of the calendar, in range (second 60 as document 01 narrows it), is a stamp, and where its
--- instant fits it is accepted with that instant
+-- a stamp of a day of the calendar, in range, is accepted with the nanoseconds from 1970-01-01 to what it writes, where they fit
+pub value_read : {t : List ℕ} {d : Ymd} {c : Clock} (z : ℤ) → Stamp t d c → civil (pos d.year) d.month d.day ≡ Some z → Ok c → in_signed 63 (instant_at z (since_midnight c)) ≡ true → stamp_nanos t ≡ accepted (instant_at z (since_midnight c))
+value_read {t} {c = c} z s e ok fits =
+    let n = held_nanos c in
+    (read_as t (instant_at z (since_midnight c))).0 (rw (← n) (reads (moment z (held_clock c)) (names z s e ok) (rw n fits)))
+
+-- and so is every UTC date-time of RFC 3339 (second 60 as document 01 narrows it)
 is_stamp : {t : List ℕ} {d : Ymd} {c : Clock} → Rfc3339 t d c → Stamp t d c
 is_stamp (utc a h m s x f t z p q r u v w y) =
     date_time a _ (z ∷ []) t p (⊎_elim (λ e. rw e capital) (λ e. rw e small) q) (colons h m s x f r u v w) (⊎_elim (λ e. rw e capital_z) (λ e. rw e small_z) y)
 
-pub rfc3339 : {t : List ℕ} {d : Ymd} {c : Clock} (z : ℤ) → Rfc3339 t d c → civil (pos d.year) d.month d.day ≡ Some z → Ok c → in_signed 63 (instant (moment z (since_midnight c))) ≡ true → stamp_nanos t ≡ accepted (instant (moment z (since_midnight c)))
-rfc3339 {t} {d} {c} z r e ok fits =
-    (read_as t (instant (moment z (since_midnight c)))).0 (reads (moment z (since_midnight c)) (names z (is_stamp r) e ok) fits)
+pub rfc3339 : {t : List ℕ} {d : Ymd} {c : Clock} (z : ℤ) → Rfc3339 t d c → civil (pos d.year) d.month d.day ≡ Some z → Ok c → in_signed 63 (instant_at z (since_midnight c)) ≡ true → stamp_nanos t ≡ accepted (instant_at z (since_midnight c))
+rfc3339 z r = value_read z (is_stamp r)

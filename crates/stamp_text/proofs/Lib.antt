@@ -3,3 +3,4 @@ pub mod LongestTimes
 pub mod Agreement
 pub mod Refusals
 pub mod Bounds
+pub mod Marks

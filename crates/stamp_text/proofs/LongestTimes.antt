@@ -3,8 +3,8 @@ use mathlib.Core.Path.{◌≡◌, refl, sym, ap, subst}
 use mathlib.Core.Bool.{true, false, not}
 use mathlib.Core.Logic.{inr}
 use mathlib.Core.List.{List, [], ◌∷◌, ◌++◌, append_assoc, nil≢cons}
-use Rattle.std.specs.Prelude.{Option, Some}
-use Prim.Native.Nat.{ℕ, suc, ◌+◌, ◌*◌}
+use Rattle.std.specs.Prelude.{cond, Option, None, Some}
+use Prim.Native.Nat.{ℕ, suc}
 use native.Mathlib.Omega.{arith}
 use lib.Dec.{eqb}
 use lib.ListN.{length, get_or, take, drop, take-append-drop}
@@ -17,8 +17,8 @@ use Rattle.text.proofs.Logic.{both, none_some}
 use Rattle.text.proofs.Places.{inside, not_sign, six, eight}
 use Rattle.text.proofs.Runs.{run_all, run_digits}
 use Rattle.text.proofs.TwoDigits.{all_five}
-use Rattle.clock.specs.Clock.{Clock, clock, in_range, nanos_of, since_midnight}
-use Rattle.clock.specs.Grammar.{no_fraction, fraction, no_digits}
+use Rattle.clock.specs.Clock.{Clock, clock, in_range, nanos_of, held, held_clock}
+use Rattle.clock.specs.Grammar.{Figures, no_fraction, fraction, no_digits}
 use Rattle.clock.proofs.Figures.{by_fields, two_figures}
 use Rattle.stamp_text.specs.Grammar.{PartialTime, colons, basic, Ending, none_given, capital_z, small_z}
 use Rattle.stamp_text.specs.Answer.{has_colons, is_basic, Timed, timed_at, timed, with_fraction, after_seconds, time_of}
@@ -29,7 +29,11 @@ abbrev pub Ok : Clock → Type 0
 Ok c = in_range c.hour c.minute c.second ≡ true
 
 abbrev time_is : Clock → List ℕ → Option Timed
-time_is c r = Some (record { nanos = since_midnight c; tail = r })
+time_is c r = Some (record { time = held_clock c; tail = r })
+
+-- that time, if its fields are in range
+abbrev pub if_ok : Clock → List ℕ → Option Timed
+if_ok c r = cond (in_range c.hour c.minute c.second) (time_is c r) None
 
 -- ---- what follows, as the relation has it and as the computation tests it
 
@@ -79,15 +83,15 @@ module _ (a b c d g i : ℕ) (fa : is_digit a ≡ true) (fb : is_digit b ≡ tru
   worth_ok : in_range (two_at (a ∷ b ∷ []) 0) (two_at (c ∷ d ∷ []) 0) (two_at (g ∷ i ∷ []) 0) ≡ true → (f : List ℕ) → Ok (hms f)
   worth_ok ok f = rw (two_value a b, two_value c d, two_value g i) ok
 
-  worth_nanos : (f : List ℕ) → ((two_at (a ∷ b ∷ []) 0 * 60 + two_at (c ∷ d ∷ []) 0) * 60 + two_at (g ∷ i ∷ []) 0) * 1000000000 + nanos_of f ≡ since_midnight (hms f)
-  worth_nanos f = rw (two_value a b, two_value c d, two_value g i)
+  worth_held : (f : List ℕ) → held (two_at (a ∷ b ∷ []) 0) (two_at (c ∷ d ∷ []) 0) (two_at (g ∷ i ∷ []) 0) (nanos_of f) ≡ held_clock (hms f)
+  worth_held f = rw (two_value a b, two_value c d, two_value g i)
 
-  whole_read : (r : List ℕ) → ((q : List ℕ) → r ≡ 0x2E ∷ q → ⊥) → Ok (hms []) → time_of (a ∷ b ∷ 0x3A ∷ c ∷ d ∷ 0x3A ∷ g ∷ i ∷ r) ≡ time_is (hms []) r
+  whole_read : (r : List ℕ) → ((q : List ℕ) → r ≡ 0x2E ∷ q → ⊥) → time_of (a ∷ b ∷ 0x3A ∷ c ∷ d ∷ 0x3A ∷ g ∷ i ∷ r) ≡ if_ok (hms []) r
   unfolding time_of
   whole_read r n =
-      rw (two_value a b, two_value c d, two_value g i, fa, fb, fc, fd, fg, fi, no_point r n) (λ ok. rw ok)
+      rw (two_value a b, two_value c d, two_value g i, fa, fb, fc, fd, fg, fi, no_point r n)
 
-  parted_read : (k : ℕ) (f r : List ℕ) → is_digit k ≡ true → digits f ≡ true → no_digits (take 1 r) ≡ true → Ok (hms (k ∷ f)) → time_of (a ∷ b ∷ 0x3A ∷ c ∷ d ∷ 0x3A ∷ g ∷ i ∷ 0x2E ∷ ((k ∷ f) ++ r)) ≡ time_is (hms (k ∷ f)) r
+  parted_read : (k : ℕ) (f r : List ℕ) → is_digit k ≡ true → digits f ≡ true → no_digits (take 1 r) ≡ true → time_of (a ∷ b ∷ 0x3A ∷ c ∷ d ∷ 0x3A ∷ g ∷ i ∷ 0x2E ∷ ((k ∷ f) ++ r)) ≡ if_ok (hms (k ∷ f)) r
   unfolding time_of
   parted_read k f r p q n =
       rw (
@@ -105,37 +109,50 @@ module _ (a b c d g i : ℕ) (fa : is_digit a ≡ true) (fb : is_digit b ≡ tru
         take-append_seam (k ∷ f) r,
         drop-append_seam (k ∷ f) r,
       )
-      (λ ok. rw ok)
 
-  compact_read : (r : List ℕ) → no_digits (take 2 r) ≡ true → Ok (hms []) → time_of (a ∷ b ∷ c ∷ d ∷ g ∷ i ∷ r) ≡ time_is (hms []) r
+  compact_read : (r : List ℕ) → no_digits (take 2 r) ≡ true → time_of (a ∷ b ∷ c ∷ d ∷ g ∷ i ∷ r) ≡ if_ok (hms []) r
   unfolding time_of
   compact_read r n =
       let y = two_no r n in
-      rw (two_value a b, two_value c d, two_value g i, not_sign c 0x3A fc (inr (omega arith)), fa, fb, fc, fd, fg, fi, y.0, y.1) (λ ok. rw ok)
+      rw (two_value a b, two_value c d, two_value g i, not_sign c 0x3A fc (inr (omega arith)), fa, fb, fc, fd, fg, fi, y.0, y.1)
+
+-- by what stands behind the seconds
+module _ {h m s : List ℕ} (p : Figures 2 h) (q : Figures 2 m) (u : Figures 2 s) where
+  abbrev its : List ℕ → Clock
+  its f = clock (value 0 h) (value 0 m) (value 0 s) f
+
+  whole_lem : (r : List ℕ) → ((q : List ℕ) → r ≡ 0x2E ∷ q → ⊥) → time_of (h ++ (0x3A ∷ (m ++ (0x3A ∷ (s ++ r))))) ≡ if_ok (its []) r
+  whole_lem r n =
+      by_fields (λ h m s. time_of (h ++ (0x3A ∷ (m ++ (0x3A ∷ (s ++ r))))) ≡ if_ok (clock (value 0 h) (value 0 m) (value 0 s) []) r)
+      (λ a b c d g i fa fb fc fd fg fi. whole_read a b c d g i fa fb fc fd fg fi r n) h m s p q u
+
+  parted_lem : (k : ℕ) (f r : List ℕ) → is_digit k ≡ true → digits f ≡ true → no_digits (take 1 r) ≡ true → time_of (h ++ (0x3A ∷ (m ++ (0x3A ∷ (s ++ (0x2E ∷ k ∷ (f ++ r))))))) ≡ if_ok (its (k ∷ f)) r
+  parted_lem k f r v w n =
+      by_fields (λ h m s. time_of (h ++ (0x3A ∷ (m ++ (0x3A ∷ (s ++ (0x2E ∷ k ∷ (f ++ r))))))) ≡ if_ok (clock (value 0 h) (value 0 m) (value 0 s) (k ∷ f)) r)
+      (λ a b c d g i fa fb fc fd fg fi. parted_read a b c d g i fa fb fc fd fg fi k f r v w n) h m s p q u
+
+  compact_lem : (r : List ℕ) → no_digits (take 2 r) ≡ true → time_of (h ++ (m ++ (s ++ r))) ≡ if_ok (its []) r
+  compact_lem r n =
+      by_fields (λ h m s. time_of (h ++ (m ++ (s ++ r))) ≡ if_ok (clock (value 0 h) (value 0 m) (value 0 s) []) r)
+      (λ a b c d g i fa fb fc fd fg fi. compact_read a b c d g i fa fb fc fd fg fi r n) h m s p q u
 
 pub time_read : {t r : List ℕ} {c : Clock} → LongestTime t c r → time_of t ≡ time_is c r
-time_read (whole h m s r p q u ok n) =
-    by_fields (λ h m s. Ok (clock (value 0 h) (value 0 m) (value 0 s) []) → time_of (h ++ (0x3A ∷ (m ++ (0x3A ∷ (s ++ r))))) ≡ time_is (clock (value 0 h) (value 0 m) (value 0 s) []) r)
-    (λ a b c d g i fa fb fc fd fg fi. whole_read a b c d g i fa fb fc fd fg fi r n) h m s p q u ok
-time_read (parted h m s k f r p q u v w ok n) =
-    by_fields (λ h m s. Ok (clock (value 0 h) (value 0 m) (value 0 s) (k ∷ f)) → time_of (h ++ (0x3A ∷ (m ++ (0x3A ∷ (s ++ (0x2E ∷ k ∷ (f ++ r))))))) ≡ time_is (clock (value 0 h) (value 0 m) (value 0 s) (k ∷ f)) r)
-    (λ a b c d g i fa fb fc fd fg fi. parted_read a b c d g i fa fb fc fd fg fi k f r v w n) h m s p q u ok
-time_read (compact h m s r p q u ok n) =
-    by_fields (λ h m s. Ok (clock (value 0 h) (value 0 m) (value 0 s) []) → time_of (h ++ (m ++ (s ++ r))) ≡ time_is (clock (value 0 h) (value 0 m) (value 0 s) []) r)
-    (λ a b c d g i fa fb fc fd fg fi. compact_read a b c d g i fa fb fc fd fg fi r n) h m s p q u ok
+time_read (whole h m s r p q u ok n) = rw ok at (whole_lem p q u r n)
+time_read (parted h m s k f r p q u v w ok n) = rw ok at (parted_lem p q u k f r v w n)
+time_read (compact h m s r p q u ok n) = rw ok at (compact_lem p q u r n)
 
 -- ---- a computed time is a longest one
 
 pub record TimeIs (t : List ℕ) (x : Timed) : Type 0 where
   pub fields : Clock
   pub time : LongestTime t fields x.tail
-  pub nanos : x.nanos ≡ since_midnight fields
+  pub held_as : x.time ≡ held_clock fields
 
 -- the fields are in range where there is a time with them
-in_range_lem : (h m s n : ℕ) (e : List ℕ) (x : Timed) → timed_at h m s n e ≡ Some x → (in_range h m s ≡ true) × (x ≡ record { nanos = ((h * 60 + m) * 60 + s) * 1000000000 + n; tail = e })
+in_range_lem : (h m s n : ℕ) (e : List ℕ) (x : Timed) → timed_at h m s n e ≡ Some x → (in_range h m s ≡ true) × (x ≡ record { time = held h m s n; tail = e })
 in_range_lem h m s n e x p =
     by_test (in_range h m s)
-    (λ ok. let q : Some (record { nanos = ((h * 60 + m) * 60 + s) * 1000000000 + n; tail = e }) ≡ Some x = rw ok at p in (ok, cc))
+    (λ ok. let q : Some (record { time = held h m s n; tail = e }) ≡ Some x = rw ok at p in (ok, cc))
     (λ no. none_some (rw no at p))
 
 module _ (a b c d g i : ℕ) (fa : is_digit a ≡ true) (fb : is_digit b ≡ true) (fc : is_digit c ≡ true) (fd : is_digit d ≡ true) (fg : is_digit g ≡ true) (fi : is_digit i ≡ true) where
@@ -154,7 +171,7 @@ module _ (a b c d g i : ℕ) (fa : is_digit a ≡ true) (fb : is_digit b ≡ tru
       rw y.1 (record {
         fields = hms a b c d g i fa fb fc fd fg fi [];
         time = whole (a ∷ b ∷ []) (c ∷ d ∷ []) (g ∷ i ∷ []) r (two_figures a b fa fb) (two_figures c d fc fd) (two_figures g i fg fi) (worth_ok a b c d g i fa fb fc fd fg fi y.0 []) n;
-        nanos = worth_nanos a b c d g i fa fb fc fd fg fi [];
+        held_as = worth_held a b c d g i fa fb fc fd fg fi [];
       })
 
   -- behind a point
@@ -172,7 +189,7 @@ module _ (a b c d g i : ℕ) (fa : is_digit a ≡ true) (fb : is_digit b ≡ tru
         fields = hms a b c d g i fa fb fc fd fg fi (k ∷ f);
         time = subst (λ (v : List ℕ). LongestTime (a ∷ b ∷ 0x3A ∷ c ∷ d ∷ 0x3A ∷ g ∷ i ∷ 0x2E ∷ v) (hms a b c d g i fa fb fc fd fg fi (k ∷ f)) r) (sym w)
             (parted (a ∷ b ∷ []) (c ∷ d ∷ []) (g ∷ i ∷ []) k f r (two_figures a b fa fb) (two_figures c d fc fd) (two_figures g i fg fi) p (run_digits u) (worth_ok a b c d g i fa fb fc fd fg fi y.0 (k ∷ f)) (no_one r (run_stops u)));
-        nanos = worth_nanos a b c d g i fa fb fc fd fg fi (k ∷ f);
+        held_as = worth_held a b c d g i fa fb fc fd fg fi (k ∷ f);
       }))
       (λ p. none_some (rw p at e))
 
@@ -189,7 +206,7 @@ module _ (a b c d g i : ℕ) (fa : is_digit a ≡ true) (fb : is_digit b ≡ tru
       rw y.1 (record {
         fields = hms a b c d g i fa fb fc fd fg fi [];
         time = compact (a ∷ b ∷ []) (c ∷ d ∷ []) (g ∷ i ∷ []) r (two_figures a b fa fb) (two_figures c d fc fd) (two_figures g i fg fi) (worth_ok a b c d g i fa fb fc fd fg fi y.0 []) n;
-        nanos = worth_nanos a b c d g i fa fb fc fd fg fi [];
+        held_as = worth_held a b c d g i fa fb fc fd fg fi [];
       })
 
 pub time_sound : (t : List ℕ) (x : Timed) → time_of t ≡ Some x → TimeIs t x
@@ -230,14 +247,14 @@ no_digit_ends none_given = (refl, refl)
 no_digit_ends capital_z = (refl, refl)
 no_digit_ends small_z = (refl, refl)
 
--- a time in range before an ending is the longest
-pub before_ending : {b e : List ℕ} {c : Clock} → PartialTime b c → Ending e → Ok c → LongestTime (b ++ e) c e
-before_ending {e = e} (colons h m s x f p q u no_fraction) n ok =
-    subst (λ (t : List ℕ). LongestTime t (clock (value 0 h) (value 0 m) (value 0 s) []) e) (simp (append_assoc)) (whole h m s e p q u ok (no_point_ends n))
-before_ending {e = e} (colons h m s x y p q u (fraction {b} {f} v w)) n ok =
-    subst (λ (t : List ℕ). LongestTime t (clock (value 0 h) (value 0 m) (value 0 s) (b ∷ f)) e) (simp (append_assoc)) (parted h m s b f e p q u v w ok (no_digit_ends n).0)
-before_ending {e = e} (basic h m s p q u) n ok =
-    subst (λ (t : List ℕ). LongestTime t (clock (value 0 h) (value 0 m) (value 0 s) []) e) (simp (append_assoc)) (compact h m s e p q u ok (no_digit_ends n).1)
+-- a time of the grammar before an ending is computed, whatever its fields
+pub before_ending : {b e : List ℕ} {c : Clock} → PartialTime b c → Ending e → time_of (b ++ e) ≡ if_ok c e
+before_ending {e = e} (colons h m s x f p q u no_fraction) n =
+    subst (λ (t : List ℕ). time_of t ≡ if_ok (clock (value 0 h) (value 0 m) (value 0 s) []) e) (simp (append_assoc)) (whole_lem p q u e (no_point_ends n))
+before_ending {e = e} (colons h m s x y p q u (fraction {b} {f} v w)) n =
+    subst (λ (t : List ℕ). time_of t ≡ if_ok (clock (value 0 h) (value 0 m) (value 0 s) (b ∷ f)) e) (simp (append_assoc)) (parted_lem p q u b f e v w (no_digit_ends n).0)
+before_ending {e = e} (basic h m s p q u) n =
+    subst (λ (t : List ℕ). time_of t ≡ if_ok (clock (value 0 h) (value 0 m) (value 0 s) []) e) (simp (append_assoc)) (compact_lem p q u e (no_digit_ends n).1)
 
 -- a longest time is a time of the grammar, in range, and what follows it
 pub record Parted (t : List ℕ) (c : Clock) (r : List ℕ) : Type 0 where

@@ -5,7 +5,8 @@ use Rattle.calendar.specs.Calendar.{civil}
 use Rattle.number.specs.Widths.{in_signed}
 use Rattle.refusal.specs.Outcome.{Outcome, accepted, refused, in_utf8, and_then}
 use Rattle.text.specs.Digits.{is_digit, two_digits, two_at, run}
-use Rattle.clock.specs.Clock.{in_range, nanos_of}
+use Rattle.clock.specs.Clock.{in_range, nanos_of, held}
+use Rattle.clock.specs.declared.NaiveTime.{NaiveTime}
 use Rattle.datetime.specs.Moment.{Moment, moment, instant}
 
 -- the text begins with yyyy-mm-dd
@@ -28,14 +29,14 @@ abbrev pub is_basic : List ℕ → Bool
 is_basic t =
     two_digits t 0 && (two_digits t 2 && (two_digits t 4 && (not (is_digit (get_or t 6 0)) && not (is_digit (get_or t 7 0)))))
 
--- a time, in nanoseconds since midnight, and the bytes after it
+-- a time and the bytes after it
 pub record Timed : Type 0 where
-  pub nanos : ℕ
+  pub time : NaiveTime
   pub tail : List ℕ
 
 -- the time with these fields and nanoseconds, if the fields are in range
 abbrev pub timed_at : ℕ → ℕ → ℕ → ℕ → List ℕ → Option Timed
-timed_at h m s n tail = cond (in_range h m s) (Some (record { nanos = ((h * 60 + m) * 60 + s) * 1000000000 + n; tail = tail })) None
+timed_at h m s n tail = cond (in_range h m s) (Some (record { time = held h m s n; tail = tail })) None
 
 -- the time with these fields and the digits of a fraction
 abbrev pub timed : ℕ → ℕ → ℕ → List ℕ → List ℕ → Option Timed
@@ -68,7 +69,7 @@ is_separator b = eqb b 0x54 || (eqb b 0x74 || eqb b 0x20)
 
 -- 5: bytes remain after the time that are not a single final z or Z
 abbrev pub at_end : ℤ → Timed → Outcome Moment
-at_end z x = cond (is_ending x.tail) (accepted (moment z x.nanos)) (refused 5)
+at_end z x = cond (is_ending x.tail) (accepted (moment z x.time)) (refused 5)
 
 -- 4: the bytes from 11 on are no time
 abbrev pub on_time : ℤ → Option Timed → Outcome Moment
@@ -78,7 +79,7 @@ on_time z (Some x) = at_end z x
 -- 3: byte 10 is no separator; a text of 10 bytes means midnight
 abbrev pub after_date : List ℕ → ℤ → Outcome Moment
 after_date t z =
-    cond (eqb (length t) 10) (accepted (moment z 0))
+    cond (eqb (length t) 10) (accepted (moment z (held 0 0 0 0)))
     (cond (is_separator (get_or t 10 0)) (on_time z (time_of (drop 11 t))) (refused 3))
 
 -- 2: the text begins with no date of the calendar

@@ -6,7 +6,7 @@ use Rattle.calendar.specs.Calendar.{civil}
 use Rattle.number.specs.Widths.{in_signed}
 use Rattle.text.specs.Digits.{is_digit, digits, value}
 use Rattle.utf8.specs.Utf8.{Utf8}
-use Rattle.clock.specs.Clock.{Clock, clock, in_range, since_midnight}
+use Rattle.clock.specs.Clock.{Clock, clock, in_range, held_clock}
 use Rattle.clock.specs.Grammar.{Figures, Secfrac, no_digits}
 use Rattle.datetime.specs.Moment.{Moment, moment, instant}
 use Rattle.stamp_text.specs.Grammar.{Ymd, FullDate, Separator, Ending, Stamp}
@@ -20,7 +20,7 @@ pub data Rfc3339 : List ℕ → Ymd → Clock → Type 0 where
 -- a text and the moment that it names
 pub data Names : List ℕ → Moment → Type 0 where
   names : {t : List ℕ} {d : Ymd} {c : Clock} (z : ℤ) → Stamp t d c → civil (pos d.year) d.month d.day ≡ Some z
-      → in_range c.hour c.minute c.second ≡ true → Names t (moment z (since_midnight c))
+      → in_range c.hour c.minute c.second ≡ true → Names t (moment z (held_clock c))
 
 -- a text and the nanoseconds that it is read as
 pub data Reads : List ℕ → ℤ → Type 0 where

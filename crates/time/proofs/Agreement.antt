@@ -18,7 +18,9 @@ use Rattle.utf8.specs.Utf8.{utf8, ascii}
 use Rattle.text.proofs.Bools.{and_left, and_right, and_false, or_cases, by_test, fails, holds_not}
 use Rattle.utf8.proofs.Utf8Agrees as utf
 use Rattle.utf8.proofs.Ascii.{ascii_nil, ascii_cons, ascii_append, ascii_utf8}
-use Rattle.clock.specs.Clock.{Clock, clock, in_range, nanos_of, since_midnight}
+use Rattle.clock.specs.Clock.{Clock, clock, in_range, nanos_of, since_midnight, held, held_clock, nanos_of_day}
+use Rattle.clock.specs.declared.NaiveTime.{NaiveTime}
+use Rattle.clock.proofs.Held.{held_nanos}
 use Rattle.clock.specs.Grammar.{Figures, Secfrac, no_fraction, fraction}
 use Rattle.refusal.proofs.Outcomes.{clash, same}
 use Rattle.text.proofs.DigitLists.{all_digits, digits_head, one_value, two_value}
@@ -116,19 +118,26 @@ written_size : {t : List ℕ} {c : Clock} → Written t c → 0 < length t
 written_size (minutes h m q r) = omega (arith, length-append h (0x3A ∷ m))
 written_size (seconds h m s x f q r u v) = omega (arith, length-append h (0x3A ∷ (m ++ (0x3A ∷ (s ++ x)))))
 
--- a time whose hour, counted by p, is g
-counted : (p : Option Half) {t : List ℕ} {h m s : ℕ} {f : List ℕ} (g : ℕ) → Written t (clock h m s f) → hour_of p h ≡ Some g → in_range g m s ≡ true → from_hour p t ≡ Some (since_midnight (clock g m s f))
-counted p g w e ok = written_read p w ∙ rw (e, ok)
+-- the time that is written, if it is in range
+abbrev pub if_in_range : Clock → Option NaiveTime
+if_in_range c = cond (in_range c.hour c.minute c.second) (Some (held_clock c)) None
 
-pub complete : {t : List ℕ} {c : Clock} → TimeOfDay t c → in_range c.hour c.minute c.second ≡ true → time_of_day t ≡ Some (since_midnight c)
+-- a time whose hour, counted by p, is g
+counted : (p : Option Half) {t : List ℕ} {h m s : ℕ} {f : List ℕ} (g : ℕ) → Written t (clock h m s f) → hour_of p h ≡ Some g → from_hour p t ≡ if_in_range (clock g m s f)
+counted p g w e = written_read p w ∙ rw e
+
+pub time_read : {t : List ℕ} {c : Clock} → TimeOfDay t c → time_of_day t ≡ if_in_range c
 unfolding time_of_day
-complete (full {t} {c} w) ok = rw (no_half t (written_last w)) (counted None c.hour w refl ok)
-complete (Grammar.am {t} {h} {m} {s} {f} a b w p q x y) ok =
+time_read (full {t} {c} w) = rw (no_half t (written_last w)) (counted None c.hour w refl)
+time_read (Grammar.am {t} {h} {m} {s} {f} a b w p q x y) =
     rw (last_three t 0x20 a b (written_size w), is_am a b x y, without t 0x20 a b)
-    (counted (Some Am) (h % 12) w (rw (le-leb 1 h p, le-leb h 12 q)) ok)
-complete (Grammar.pm {t} {h} {m} {s} {f} a b w p q x y) ok =
+    (counted (Some Am) (h % 12) w (rw (le-leb 1 h p, le-leb h 12 q)))
+time_read (Grammar.pm {t} {h} {m} {s} {f} a b w p q x y) =
     rw (last_three t 0x20 a b (written_size w), is_pm a b x y, without t 0x20 a b)
-    (counted (Some Pm) (h % 12 + 12) w (rw (le-leb 1 h p, le-leb h 12 q)) ok)
+    (counted (Some Pm) (h % 12 + 12) w (rw (le-leb 1 h p, le-leb h 12 q)))
+
+pub complete : {t : List ℕ} {c : Clock} → TimeOfDay t c → in_range c.hour c.minute c.second ≡ true → time_of_day t ≡ Some (held_clock c)
+complete d ok = rw ok at (time_read d)
 
 -- ---- a text that is read is a time of the grammar
 
@@ -150,7 +159,7 @@ fraction_sound (b ∷ c ∷ f) n e =
     (λ p. none_some (rw p at e))
 
 -- the time that a text t writes, and what it comes to where p counts the hours
-record Found (p : Option Half) (t : List ℕ) (n : ℕ) : Type 0 where
+record Found (p : Option Half) (t : List ℕ) (n : NaiveTime) : Type 0 where
   hour : ℕ
   minute : ℕ
   second : ℕ
@@ -159,7 +168,7 @@ record Found (p : Option Half) (t : List ℕ) (n : ℕ) : Type 0 where
   value_is : in_day minute second (nanos_of behind) (hour_of p hour) ≡ Some n
 
 module _ (p : Option Half) (h : List ℕ) (hh : Hour h) where
-  seconds_sound : (a b c d : ℕ) (x : List ℕ) (o : Option ℕ) (n : ℕ) → is_digit a ≡ true → is_digit b ≡ true → is_digit c ≡ true → is_digit d ≡ true → fraction_of x ≡ o → with_fraction p (value 0 h) (worth a * 10 + worth b) (worth c * 10 + worth d) o ≡ Some n → Found p (h ++ (0x3A ∷ a ∷ b ∷ 0x3A ∷ c ∷ d ∷ x)) n
+  seconds_sound : (a b c d : ℕ) (x : List ℕ) (o : Option ℕ) (n : NaiveTime) → is_digit a ≡ true → is_digit b ≡ true → is_digit c ≡ true → is_digit d ≡ true → fraction_of x ≡ o → with_fraction p (value 0 h) (worth a * 10 + worth b) (worth c * 10 + worth d) o ≡ Some n → Found p (h ++ (0x3A ∷ a ∷ b ∷ 0x3A ∷ c ∷ d ∷ x)) n
   seconds_sound a b c d x None n fa fb fc fd g e = none_some e
   seconds_sound a b c d x (Some k) n fa fb fc fd g e =
       let y = fraction_sound x k g in
@@ -172,7 +181,7 @@ module _ (p : Option Half) (h : List ℕ) (hh : Hour h) where
         value_is = rw (two_value a b, two_value c d, y.nanos) e;
       }
 
-  after_minutes_sound : (a b : ℕ) (r : List ℕ) (n : ℕ) → is_digit a ≡ true → is_digit b ≡ true → after_minutes p (value 0 h) (worth a * 10 + worth b) r ≡ Some n → Found p (h ++ (0x3A ∷ a ∷ b ∷ r)) n
+  after_minutes_sound : (a b : ℕ) (r : List ℕ) (n : NaiveTime) → is_digit a ≡ true → is_digit b ≡ true → after_minutes p (value 0 h) (worth a * 10 + worth b) r ≡ Some n → Found p (h ++ (0x3A ∷ a ∷ b ∷ r)) n
   unfolding nanos_of value
   after_minutes_sound a b [] n fa fb e =
       record {
@@ -192,7 +201,7 @@ module _ (p : Option Half) (h : List ℕ) (hh : Hour h) where
       rw (eqb-true k 0x3A (and_left (eqb k 0x3A) (two_digits (c ∷ d ∷ x) 0) q)) (seconds_sound a b c d x (fraction_of x) n fa fb s.0 s.1 refl (rw q at e)))
       (λ q. none_some (rw q at e))
 
-  after_hour_sound : (r : List ℕ) (n : ℕ) → after_hour p (value 0 h) r ≡ Some n → Found p (h ++ (0x3A ∷ r)) n
+  after_hour_sound : (r : List ℕ) (n : NaiveTime) → after_hour p (value 0 h) r ≡ Some n → Found p (h ++ (0x3A ∷ r)) n
   after_hour_sound [] n e = none_some e
   after_hour_sound (a ∷ []) n e = none_some (rw (and_false (is_digit a)) at e)
   after_hour_sound (a ∷ b ∷ r) n e =
@@ -200,12 +209,12 @@ module _ (p : Option Half) (h : List ℕ) (hh : Hour h) where
       (λ q. let s = both (is_digit a) (is_digit b) q in after_minutes_sound a b r n s.0 s.1 (rw q at e))
       (λ q. none_some (rw q at e))
 
-one_digit : (p : Option Half) (a b : ℕ) (r : List ℕ) (n : ℕ) → is_digit a && eqb b 0x3A ≡ true → after_hour p (worth a) r ≡ Some n → Found p (a ∷ b ∷ r) n
+one_digit : (p : Option Half) (a b : ℕ) (r : List ℕ) (n : NaiveTime) → is_digit a && eqb b 0x3A ≡ true → after_hour p (worth a) r ≡ Some n → Found p (a ∷ b ∷ r) n
 one_digit p a b r n q e =
     let d = both (is_digit a) (eqb b 0x3A) q in
     rw (eqb-true b 0x3A d.1) (after_hour_sound p (a ∷ []) (one (one_figure a d.0)) r n (rw (one_value a) e))
 
-from_hour_sound : (p : Option Half) (t : List ℕ) (n : ℕ) → from_hour p t ≡ Some n → Found p t n
+from_hour_sound : (p : Option Half) (t : List ℕ) (n : NaiveTime) → from_hour p t ≡ Some n → Found p t n
 from_hour_sound p [] n e = none_some e
 from_hour_sound p (a ∷ []) n e = none_some (rw (and_false (is_digit a)) at e)
 from_hour_sound p (a ∷ b ∷ []) n e =
@@ -248,49 +257,49 @@ three t h =
     ap (λ (i : ℕ). get_or t (length t - 3) 0 ∷ get_or t i 0 ∷ get_or t (suc (suc (length t - 3))) 0 ∷ []) p ∙
     ap (λ (i : ℕ). get_or t (length t - 3) 0 ∷ get_or t (length t - 2) 0 ∷ get_or t i 0 ∷ []) q)
 
-record TimeIs (t : List ℕ) (n : ℕ) : Type 0 where
-  fields : Clock
-  time : TimeOfDay t fields
-  ok : in_range fields.hour fields.minute fields.second ≡ true
-  nanos : since_midnight fields ≡ n
+pub record TimeIs (t : List ℕ) (n : NaiveTime) : Type 0 where
+  pub fields : Clock
+  pub time : TimeOfDay t fields
+  pub ok : in_range fields.hour fields.minute fields.second ≡ true
+  pub held_as : held_clock fields ≡ n
 
--- the hour g of the day is in range where there is a number of nanoseconds
-in_day_lem : (g m s k n : ℕ) → in_day m s k (Some g) ≡ Some n → (in_range g m s ≡ true) × (((g * 60 + m) * 60 + s) * 1000000000 + k ≡ n)
+-- the hour g of the day is in range where there is a time
+in_day_lem : (g m s k : ℕ) (n : NaiveTime) → in_day m s k (Some g) ≡ Some n → (in_range g m s ≡ true) × (held g m s k ≡ n)
 in_day_lem g m s k n e =
     by_test (in_range g m s)
-    (λ ok. let q : Some (((g * 60 + m) * 60 + s) * 1000000000 + k) ≡ Some n = rw ok at e in (ok, cc))
+    (λ ok. let q : Some (held g m s k) ≡ Some n = rw ok at e in (ok, cc))
     (λ no. none_some (rw no at e))
 
 -- an hour of twelve
-twelve : (h g m s k n : ℕ) → in_day m s k (cond (leb 1 h && leb h 12) (Some g) None) ≡ Some n → (1 ≤ h) × (h ≤ 12) × (in_day m s k (Some g) ≡ Some n)
+twelve : (h g m s k : ℕ) (n : NaiveTime) → in_day m s k (cond (leb 1 h && leb h 12) (Some g) None) ≡ Some n → (1 ≤ h) × (h ≤ 12) × (in_day m s k (Some g) ≡ Some n)
 twelve h g m s k n e =
     by_test (leb 1 h && leb h 12)
     (λ q. let d = both (leb 1 h) (leb h 12) q in (leb-true 1 h d.0, leb-true h 12 d.1, rw q at e))
     (λ q. none_some (rw q at e))
 
 -- by the ending: x is what stands before it
-module _ (x : List ℕ) (a m n : ℕ) (la : is_letter 0x4D m ≡ true) where
+module _ (x : List ℕ) (a m : ℕ) (n : NaiveTime) (la : is_letter 0x4D m ≡ true) where
   am_sound : is_letter 0x41 a ≡ true → from_hour (Some Am) x ≡ Some n → TimeIs (x ++ (0x20 ∷ a ∷ m ∷ [])) n
   am_sound l e =
       let f = from_hour_sound (Some Am) x n e in
       let w = twelve f.hour (f.hour % 12) f.minute f.second (nanos_of f.behind) n f.value_is in
       let d = in_day_lem (f.hour % 12) f.minute f.second (nanos_of f.behind) n w.2 in
-      record { fields = clock (f.hour % 12) f.minute f.second f.behind; time = Grammar.am a m f.written w.0 w.1 (letter_sound 0x41 a l) (letter_sound 0x4D m la); ok = d.0; nanos = d.1 }
+      record { fields = clock (f.hour % 12) f.minute f.second f.behind; time = Grammar.am a m f.written w.0 w.1 (letter_sound 0x41 a l) (letter_sound 0x4D m la); ok = d.0; held_as = d.1 }
 
   pm_sound : is_letter 0x50 a ≡ true → from_hour (Some Pm) x ≡ Some n → TimeIs (x ++ (0x20 ∷ a ∷ m ∷ [])) n
   pm_sound l e =
       let f = from_hour_sound (Some Pm) x n e in
       let w = twelve f.hour (f.hour % 12 + 12) f.minute f.second (nanos_of f.behind) n f.value_is in
       let d = in_day_lem (f.hour % 12 + 12) f.minute f.second (nanos_of f.behind) n w.2 in
-      record { fields = clock (f.hour % 12 + 12) f.minute f.second f.behind; time = Grammar.pm a m f.written w.0 w.1 (letter_sound 0x50 a l) (letter_sound 0x4D m la); ok = d.0; nanos = d.1 }
+      record { fields = clock (f.hour % 12 + 12) f.minute f.second f.behind; time = Grammar.pm a m f.written w.0 w.1 (letter_sound 0x50 a l) (letter_sound 0x4D m la); ok = d.0; held_as = d.1 }
 
-full_sound : (t : List ℕ) (n : ℕ) → from_hour None t ≡ Some n → TimeIs t n
+full_sound : (t : List ℕ) (n : NaiveTime) → from_hour None t ≡ Some n → TimeIs t n
 full_sound t n e =
     let f = from_hour_sound None t n e in
     let d = in_day_lem f.hour f.minute f.second (nanos_of f.behind) n f.value_is in
-    record { fields = clock f.hour f.minute f.second f.behind; time = full f.written; ok = d.0; nanos = d.1 }
+    record { fields = clock f.hour f.minute f.second f.behind; time = full f.written; ok = d.0; held_as = d.1 }
 
-sound : (t : List ℕ) (n : ℕ) → time_of_day t ≡ Some n → TimeIs t n
+pub sound : (t : List ℕ) (n : NaiveTime) → time_of_day t ≡ Some n → TimeIs t n
 unfolding time_of_day
 sound t n e =
     by_test (ltb (length t) 4)
@@ -347,7 +356,7 @@ ascii_time (Grammar.am {t} a b w p q x y) = ascii_append t _ (ascii_written w) (
 ascii_time (Grammar.pm {t} a b w p q x y) = ascii_append t _ (ascii_written w) (ascii_ending a b (ascii_letter (lit< tt) (lit< tt) x) (ascii_letter (lit< tt) (lit< tt) y))
 
 -- a text that is read is UTF-8, so that it need not be looked at first
-pub read_utf8 : (t : List ℕ) (n : ℕ) → time_of_day t ≡ Some n → utf8 t ≡ true
+pub read_utf8 : (t : List ℕ) (n : NaiveTime) → time_of_day t ≡ Some n → utf8 t ≡ true
 read_utf8 t n e = ascii_utf8 t (ascii_time (sound t n e).time)
 
 -- ---- the theorem
@@ -356,11 +365,15 @@ pub agrees : (t : List ℕ) (z : ℤ) → Reads t z ↔ (time_nanos t ≡ accept
 agrees t z = (into, λ e. by_test (utf8 t) (λ u. back (time_of_day t) refl (rw u at e)) (λ u. clash (rw u at e)))
   where
     into : {z : ℤ} → Reads t z → time_nanos t ≡ accepted z
-    into (reads d ok) = rw (ascii_utf8 t (ascii_time d), complete d ok)
+    into (reads {c = c} d ok) = rw (ascii_utf8 t (ascii_time d), complete d ok) (ap (λ (n : ℕ). accepted (pos n)) (held_nanos c))
 
-    back : (o : Option ℕ) → time_of_day t ≡ o → on_time o ≡ accepted z → Reads t z
+    back : (o : Option NaiveTime) → time_of_day t ≡ o → on_time o ≡ accepted z → Reads t z
     back None p e = clash e
-    back (Some n) p e = let x = sound t n p in let q : pos (since_midnight x.fields) ≡ z = cc x.nanos in rw (← q) (reads x.time x.ok)
+    back (Some n) p e =
+        let x = sound t n p in
+        let w : since_midnight x.fields ≡ nanos_of_day n = sym (held_nanos x.fields) ∙ ap nanos_of_day x.held_as in
+        let q : pos (since_midnight x.fields) ≡ z = cc w in
+        rw (← q) (reads x.time x.ok)
 
 -- at most one
 pub one_reading : {t : List ℕ} {y z : ℤ} → Reads t y → Reads t z → y ≡ z
@@ -370,9 +383,9 @@ one_reading {t} {y} {z} p q = let a = (agrees t y).0 p in let b = (agrees t z).0
 pub refusals : (t : List ℕ) (n : ℕ) → Refuses t n ↔ (time_nanos t ≡ refused n)
 refusals t n = (into, λ e. by_test (utf8 t) (λ u. back (time_of_day t) refl u (rw u at e)) (λ u. first u (rw u at e)))
   where
-    by : (o : Option ℕ) → time_of_day t ≡ o → utf8 t ≡ true → ((z : ℤ) → Reads t z → ⊥) → time_nanos t ≡ refused 7
+    by : (o : Option NaiveTime) → time_of_day t ≡ o → utf8 t ≡ true → ((z : ℤ) → Reads t z → ⊥) → time_nanos t ≡ refused 7
     by None p u h = rw (u, p)
-    by (Some k) p u h = absurd (h (pos k) ((agrees t (pos k)).1 (rw (u, p))))
+    by (Some k) p u h = absurd (h (pos (nanos_of_day k)) ((agrees t (pos (nanos_of_day k))).1 (rw (u, p))))
 
     into : {n : ℕ} → Refuses t n → time_nanos t ≡ refused n
     into (not_utf8 h) = rw (fails (utf8 t) (utf.agrees t).1 h)
@@ -381,7 +394,7 @@ refusals t n = (into, λ e. by_test (utf8 t) (λ u. back (time_of_day t) refl u 
     first : utf8 t ≡ false → ◌≡◌ {A = Outcome ℤ} (refused 1) (refused n) → Refuses t n
     first u e = rw (← same e) (not_utf8 (holds_not u (utf.agrees t).0))
 
-    back : (o : Option ℕ) → time_of_day t ≡ o → utf8 t ≡ true → on_time o ≡ refused n → Refuses t n
+    back : (o : Option NaiveTime) → time_of_day t ≡ o → utf8 t ≡ true → on_time o ≡ refused n → Refuses t n
     back (Some k) p u e = clash (sym e)
     back None p u e =
         let q : time_nanos t ≡ refused 7 = rw (u, p) in

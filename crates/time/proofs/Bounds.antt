@@ -18,7 +18,7 @@ unfolding nanos_of value
 written_most (minutes h m p q) = omega arith
 written_most (seconds h m s x f p q r v) = secfrac_most v
 
-time_most : {t : List ℕ} {c : Clock} → TimeOfDay t c → nanos_of c.fraction < 1000000000
+pub time_most : {t : List ℕ} {c : Clock} → TimeOfDay t c → nanos_of c.fraction < 1000000000
 time_most (full w) = written_most w
 time_most (Grammar.am a b w p q x y) = written_most w
 time_most (Grammar.pm a b w p q x y) = written_most w

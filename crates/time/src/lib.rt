@@ -1,12 +1,11 @@
 // Times of day.
 #![tactic(auto)]
 
-ghost use Rattle.std.specs.Prelude.{◌≡◌, ◌<◌, IfSome, option_map, pos};
+ghost use Rattle.std.specs.Prelude.{◌≡◌, ◌<◌, IfSome};
 ghost use Rattle.refusal.specs.Outcome.{outcome};
-ghost use Rattle.clock.specs.Clock.{nanos_of_day};
 ghost use Rattle.time.specs.Answer.{half, body, hour_of, fraction_of, after_minutes, after_hour, from_hour, time_of_day, time_nanos};
 
-use clock::NaiveTime;
+use clock::{NaiveTime, nanos_of_day};
 use refusal::Refusal;
 use text::digits::{COLON, POINT, digit, two};
 
@@ -27,20 +26,15 @@ pub enum Half {
 pub fn string_to_time_nanoseconds(s: &[u8]) -> Result<i64, Refusal>
     ensures { outcome result ≡ time_nanos s.now }
 {
-    string_to_time(s)
-        .map(nanos_of_day)
-        .ok_or_else(|| Refusal::TimeOfDay.of(s))
-}
-
-pub fn nanos_of_day(t: NaiveTime) -> i64
-    ensures { result ≡ pos (nanos_of_day t) }
-{
-    i64::from(t.secs) * 1_000_000_000 + i64::from(t.frac)
+    match string_to_time(s) {
+        Some(t) => Ok(nanos_of_day(&t)),
+        None => Err(Refusal::TimeOfDay.of(s)),
+    }
 }
 
 #[tactic(auto, unfolding(crate::specs::Answer::time_of_day))]
 pub fn string_to_time(s: &[u8]) -> Option<NaiveTime>
-    ensures { option_map nanos_of_day result ≡ time_of_day s.now }
+    ensures { result ≡ time_of_day s.now }
 {
     let (body, half) = split_half(s);
     from_hour(body, half)
@@ -60,7 +54,7 @@ fn split_half(s: &[u8]) -> (&[u8], Option<Half>)
 
 // One or two hour digits and a colon.
 fn from_hour(s: &[u8], half: Option<Half>) -> Option<NaiveTime>
-    ensures { option_map nanos_of_day result ≡ from_hour half s.now }
+    ensures { result ≡ from_hour half s.now }
 {
     match s {
         [a, b, rest @ ..] if digit(*a) < 10 && digit(*b) == COLON => {
@@ -73,7 +67,7 @@ fn from_hour(s: &[u8], half: Option<Half>) -> Option<NaiveTime>
 
 // Two minute digits.
 fn after_hour(s: &[u8], hour: u8, half: Option<Half>) -> Option<NaiveTime>
-    ensures { option_map nanos_of_day result ≡ after_hour half hour s.now }
+    ensures { result ≡ after_hour half hour s.now }
 {
     let minute = two(s, 0)?;
     after_minutes(&s[2..], hour, minute, half)
@@ -81,7 +75,7 @@ fn after_hour(s: &[u8], hour: u8, half: Option<Half>) -> Option<NaiveTime>
 
 // Nothing, or a colon and two second digits, and perhaps a fraction.
 fn after_minutes(s: &[u8], hour: u8, minute: u8, half: Option<Half>) -> Option<NaiveTime>
-    ensures { option_map nanos_of_day result ≡ after_minutes half hour minute s.now }
+    ensures { result ≡ after_minutes half hour minute s.now }
 {
     match s {
         [] => clock::from_hms_nano(hour_of(hour, half)?, minute, 0, 0),

@@ -2,7 +2,6 @@
 ghost use Rattle.std.specs.Prelude.{◌≡◌, drop};
 ghost use Rattle.refusal.specs.Outcome.{outcome};
 ghost use Rattle.stamp_text.specs.Answer.{is_ending, plain_moment, after_date, datetime, stamp_nanos};
-ghost use Rattle.timestamp.specs.Read.{moment_is};
 
 use clock::NaiveTime;
 use datetime::{NaiveDateTime, to_timestamp_nanos};
@@ -20,7 +19,7 @@ use text::digits::{CAPITAL_T, SMALL_T, SPACE, digit};
 // A text that is read is ASCII, so UTF-8 is looked at only where a text is refused.
 #[tactic(auto, using(stamp_text::proofs::Agreement::read_utf8))]
 pub fn string_to_datetime(s: &[u8]) -> Result<NaiveDateTime, Refusal>
-    ensures { moment_is result ≡ datetime s.now }
+    ensures { outcome result ≡ datetime s.now }
 {
     // By `match`: of `map_err`, tried, the proof did not close.
     match plain(s) {
@@ -31,17 +30,23 @@ pub fn string_to_datetime(s: &[u8]) -> Result<NaiveDateTime, Refusal>
 
 #[tactic(auto, unfolding(stamp_text::specs::Answer::plain_moment))]
 fn plain(s: &[u8]) -> Result<NaiveDateTime, Refusal>
-    ensures { moment_is result ≡ plain_moment s.now }
+    ensures { outcome result ≡ plain_moment s.now }
 {
     let day = parser::date(s).ok_or(Refusal::Date)?;
     after_date(s, day)
 }
 
 fn after_date(s: &[u8], day: i64) -> Result<NaiveDateTime, Refusal>
-    ensures { moment_is result ≡ after_date s.now day }
+    ensures { outcome result ≡ after_date s.now day }
 {
     if s.len() == 10 {
-        let time = NaiveTime { secs: 0, frac: 0 };
+        let time = NaiveTime {
+            hour: 0,
+            minute: 0,
+            second: 0,
+            leap: false,
+            nanos: 0,
+        };
         return Ok(NaiveDateTime { day, time });
     }
     let b = digit(byte_at(s, 10));

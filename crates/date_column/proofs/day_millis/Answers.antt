@@ -1,11 +1,10 @@
 -- `date_column::day_millis` meets its contract: a day of 10 bytes is near enough. Assumes nothing.
-use mathlib.Core.Path.{◌≡◌, sym, ap, ◌∙◌}
+use mathlib.Core.Path.{sym, ap}
 use lib.IntN.{ℤ, pos, ◌*ℤ◌}
 use native.Mathlib.Omega.{arith}
 use mir.Syntax.{w64}
 use mir.Val.{SFits}
 use mir.Facts.{to_z-of_z}
-use Rattle.number.proofs.Ranges.{rd}
 use Rattle.number.proofs.Zed.{mul_p, mul_n, fits_of}
 use Rattle.calendar.proofs.Bounds.{Within}
 use Rattle.date.proofs.Bounds.{short_most}

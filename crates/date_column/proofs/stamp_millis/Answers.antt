@@ -1,6 +1,5 @@
 -- `date_column::stamp_millis` meets its contract: a stamp's day is near enough. Assumes nothing.
 use mathlib.Core.Path.{sym}
-use Rattle.datetime.specs.Moment.{moment_of}
 use Rattle.stamp_text.proofs.Agreement.{agrees}
 use Rattle.stamp_text.proofs.Bounds.{moment_most}
 use Rattle.number.proofs.Zed.{near}
@@ -8,6 +7,5 @@ use Rattle.date_column.proofs.stamp_millis.Goals as goal
 
 pub timestamp_millis-requires : goal.timestamp_millis-requires
 timestamp_millis-requires c =
-    let m = moment_of c.in_ok-string_to_datetime.field-0 in
-    let b = moment_most ((agrees c.args.s.now m).1 (sym c.in_ok-string_to_datetime.ensures)) in
-    record { day_bound = near m.day 4400000 b.0; time_bound = b.1 }
+    let m = c.in_ok-string_to_datetime.field-0 in
+    near m.day 4400000 (moment_most ((agrees c.args.s.now m).1 (sym c.in_ok-string_to_datetime.ensures))).0
