@@ -74,8 +74,8 @@ uint8_t cullpethi_string_to_timestamp_nanos(const uint8_t *text, size_t len, int
 uint8_t cullpethi_string_to_time_nanoseconds(const uint8_t *text, size_t len, int64_t *nanos);
 
 /* A site stamp, in nanoseconds since 1970-01-01: 2026-03-01T06:30:00Z, with a point and 1 to 9 digits if need be; second 60
-   only as 23:59:60 on 30 June or 31 December. */
-uint8_t cullpethi_site_stamp(const uint8_t *text, size_t len, int64_t *nanos);
+   only as 23:59:60 on 30 June or 31 December, and then `leap` is 1, else 0. Both cells are written, or neither. */
+uint8_t cullpethi_site_stamp(const uint8_t *text, size_t len, int64_t *nanos, uint8_t *leap);
 
 /* A timestamp column: a stamp, as given or trimmed, in nanoseconds. */
 uint8_t cullpethi_parse_timestamp_nanosecond(const uint8_t *text, size_t len, int64_t *nanos);

@@ -29,11 +29,12 @@ static void column(int number) {
 static void run(void) {
     int32_t a, b;
     int64_t c;
+    uint8_t leap;
     size_t place, written;
     switch (which) {
     case 0: cullpethi_string_to_timestamp_nanos(text, length, &c); break;
     case 1: cullpethi_string_to_time_nanoseconds(text, length, &c); break;
-    case 2: cullpethi_site_stamp(text, length, &c); break;
+    case 2: cullpethi_site_stamp(text, length, &c, &leap); break;
     case 3: cullpethi_parse_timestamp_nanosecond(text, length, &c); break;
     case 4: cullpethi_parse_timestamp_microsecond(text, length, &c); break;
     case 5: cullpethi_parse_timestamp_millisecond(text, length, &c); break;

@@ -25,10 +25,15 @@ struct size {
     size_t before, cell, after;
 };
 
+struct byte {
+    uint8_t before, cell, after;
+};
+
 struct cells {
     struct narrow a, b;
     struct wide c;
     struct size place;
+    struct byte leap;
 };
 
 /* Two marks, so that a cell that was written cannot pass for one that was kept. */
@@ -39,7 +44,7 @@ typedef uint8_t call(const uint8_t *text, size_t len, uint8_t unit, struct cells
 /* What is expected in the cells; a cell that the function does not have keeps its mark, and `place` does but with 8, 9 and 10. */
 struct expected {
     uint8_t status;
-    int uses; /* bit 0: cell a, bit 1: cell b, bit 2: cell c */
+    int uses; /* bit 0: cell a, bit 1: cell b, bit 2: cell c, bit 3: the mark, which stands in b here */
     int32_t a, b;
     int64_t c;
     size_t place;
@@ -58,7 +63,6 @@ struct expected {
 
 WIDE(string_to_timestamp_nanos)
 WIDE(string_to_time_nanoseconds)
-WIDE(site_stamp)
 WIDE(parse_timestamp_nanosecond)
 WIDE(parse_timestamp_microsecond)
 WIDE(parse_timestamp_millisecond)
@@ -69,6 +73,11 @@ WIDE(parse_date64)
 NARROW(parse_time32_millisecond)
 NARROW(parse_time32_second)
 NARROW(parse_date32)
+
+static uint8_t call_site_stamp(const uint8_t *text, size_t len, uint8_t unit, struct cells *cells) {
+    (void)unit;
+    return cullpethi_site_stamp(text, len, &cells->c.cell, &cells->leap.cell);
+}
 
 static uint8_t call_parse_interval_year_month(const uint8_t *text, size_t len, uint8_t unit, struct cells *cells) {
     (void)unit;
@@ -103,6 +112,7 @@ static int holds(call *f, const uint8_t *at, const char *text, size_t len, uint8
         if (e->uses & 1) want.a.cell = e->a;
         if (e->uses & 2) want.b.cell = e->b;
         if (e->uses & 4) want.c.cell = e->c;
+        if (e->uses & 8) want.leap.cell = (uint8_t)e->b;
     }
     if (has_place(e->status)) want.place.cell = e->place;
     uint8_t status = f(at, len, unit, &cells);
@@ -129,6 +139,7 @@ static void expect(const char *name, call *f, const char *text, size_t len, uint
 
 #define EXPECT(name, text, unit, ...) expect(#name, call_##name, text, sizeof(text) - 1, unit, (struct expected){__VA_ARGS__})
 #define IS64(name, text, value) EXPECT(name, text, 0, CULLPETHI_OK, 4, 0, 0, value, 0)
+#define MARKED(name, text, value, leap) EXPECT(name, text, 0, CULLPETHI_OK, 12, 0, leap, value, 0)
 #define IS32(name, text, value) EXPECT(name, text, 0, CULLPETHI_OK, 1, value, 0, 0, 0)
 #define REFUSED(name, text, status) EXPECT(name, text, 0, status, 0, 0, 0, 0, 0)
 #define REFUSED_AT(name, text, status, place) EXPECT(name, text, 0, status, 0, 0, 0, 0, place)
@@ -149,9 +160,11 @@ static void stamps(void) {
     IS64(string_to_time_nanoseconds, "23:59:60", 86400000000000);
     REFUSED(string_to_time_nanoseconds, "1234", CULLPETHI_TIME_OF_DAY);
     REFUSED(string_to_time_nanoseconds, "\xC0", CULLPETHI_NOT_UTF8);
-    IS64(site_stamp, "1970-01-01T00:00:01.000000001Z", 1000000001);
-    IS64(site_stamp, "2016-12-31T23:59:60Z", 1483228800000000000);
-    IS64(site_stamp, "2015-06-30T23:59:60.5Z", 1435708800500000000);
+    MARKED(site_stamp, "1970-01-01T00:00:01.000000001Z", 1000000001, 0);
+    MARKED(site_stamp, "2016-12-31T23:59:59Z", 1483228799000000000, 0);
+    MARKED(site_stamp, "2016-12-31T23:59:60Z", 1483228800000000000, 1);
+    MARKED(site_stamp, "2017-01-01T00:00:00Z", 1483228800000000000, 0);
+    MARKED(site_stamp, "2015-06-30T23:59:60.5Z", 1435708800500000000, 1);
     REFUSED(site_stamp, "1970-01-01T00:00:01", CULLPETHI_SITE_STAMP);
     REFUSED(site_stamp, "2015-07-31T23:59:60Z", CULLPETHI_SITE_STAMP);
     REFUSED(site_stamp, "2015-06-31T23:59:60Z", CULLPETHI_DATE);

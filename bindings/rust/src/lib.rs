@@ -31,6 +31,7 @@ mod intervals;
 mod library;
 mod printing;
 mod refusal;
+mod site;
 mod text;
 mod units;
 mod whole;
@@ -39,6 +40,7 @@ pub use columns::*;
 pub use intervals::*;
 pub use printing::*;
 pub use refusal::Refusal;
+pub use site::{site_stamp, SiteStamp};
 pub use text::Text;
 pub use units::IntervalUnit;
 pub use whole::{parse_column, parse_texts, Column, ColumnRefusal};
@@ -75,21 +77,4 @@ pub fn string_to_timestamp_nanos<T: Text + ?Sized>(text: &T) -> Result<i64, Refu
 /// ```
 pub fn string_to_time_nanoseconds<T: Text + ?Sized>(text: &T) -> Result<i64, Refusal> {
     one(text, library::cullpethi_string_to_time_nanoseconds)
-}
-
-/// Reads a site stamp, and gives nanoseconds since 1970-01-01. It is not in arrow-cast.
-///
-/// A site stamp is `yyyy-mm-ddThh:mm:ssZ` with capital letters, and behind the seconds a point and 1 to 9 digits or not; second 60 is only
-/// read as `23:59:60` on 30 June or 31 December. Refused as by [`string_to_timestamp_nanos`], or, where that reads the text, with
-/// [`SiteStamp`](Refusal::SiteStamp).
-///
-/// ```
-/// # use cullpethi::*;
-/// assert_eq!(site_stamp("1970-01-01T00:00:01Z"), Ok(1_000_000_000));
-/// assert_eq!(site_stamp("1970-01-01 00:00:01Z"), Err(Refusal::SiteStamp));
-/// assert_eq!(site_stamp("2015-06-30T23:59:60Z"), site_stamp("2015-07-01T00:00:00Z"));
-/// assert_eq!(site_stamp("2015-07-31T23:59:60Z"), Err(Refusal::SiteStamp));
-/// ```
-pub fn site_stamp<T: Text + ?Sized>(text: &T) -> Result<i64, Refusal> {
-    one(text, library::cullpethi_site_stamp)
 }

@@ -8,7 +8,12 @@ extern "C" {
     pub fn cullpethi_string_to_timestamp_nanos(text: *const u8, len: usize, nanos: *mut i64) -> u8;
     pub fn cullpethi_string_to_time_nanoseconds(text: *const u8, len: usize, nanos: *mut i64)
         -> u8;
-    pub fn cullpethi_site_stamp(text: *const u8, len: usize, nanos: *mut i64) -> u8;
+    pub fn cullpethi_site_stamp(
+        text: *const u8,
+        len: usize,
+        nanos: *mut i64,
+        leap: *mut u8,
+    ) -> u8;
     pub fn cullpethi_parse_timestamp_nanosecond(text: *const u8, len: usize, nanos: *mut i64)
         -> u8;
     pub fn cullpethi_parse_timestamp_microsecond(

@@ -9,7 +9,7 @@ fn told<V: ToString>(read: Result<V, Refusal>) -> String {
 fn answer(reader: &str, text: &str) -> Option<String> {
     Some(match reader {
         "stamp" => told(string_to_timestamp_nanos(text)),
-        "site stamp" => told(site_stamp(text)),
+        "site stamp" => told(site_stamp(text).map(|x| x.nanos)),
         "time of day" => told(string_to_time_nanoseconds(text)),
         "time column" => told(parse_time64_nanosecond(text)),
         "Date32" => told(parse_date32(text)),

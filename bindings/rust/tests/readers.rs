@@ -34,14 +34,27 @@ fn stamps() {
         Ok(86_400_000_000_000)
     );
     assert_eq!(string_to_time_nanoseconds("1234"), Err(Refusal::TimeOfDay));
+}
+
+#[test]
+fn site_stamps() {
+    let site = |nanos, leap| Ok(SiteStamp { nanos, leap });
     assert_eq!(
         site_stamp("1970-01-01T00:00:01.000000001Z"),
-        Ok(1_000_000_001)
+        site(1_000_000_001, false)
     );
     assert_eq!(site_stamp("1970-01-01T00:00:01"), Err(Refusal::SiteStamp));
     assert_eq!(
+        site_stamp("2015-06-30T23:59:59.5Z"),
+        site(1_435_708_799_500_000_000, false)
+    );
+    assert_eq!(
         site_stamp("2015-06-30T23:59:60.5Z"),
-        Ok(1_435_708_800_500_000_000)
+        site(1_435_708_800_500_000_000, true)
+    );
+    assert_eq!(
+        site_stamp("2015-07-01T00:00:00.5Z"),
+        site(1_435_708_800_500_000_000, false)
     );
     assert_eq!(
         site_stamp("2015-07-31T23:59:60.5Z"),

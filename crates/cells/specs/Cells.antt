@@ -1,15 +1,20 @@
 -- What a C caller finds after a call: a status, and the cells that it lent. The refusals' numbers are document 01's. Assumes nothing.
-use Rattle.std.specs.Prelude.{◌≡◌, List, ℕ, ℤ, Option, None, Some, Result, length}
+use Rattle.std.specs.Prelude.{◌≡◌, cond, List, ℕ, ℤ, Option, None, Some, Result, length}
 use Rattle.buffer.specs.Written.{in_room, length_of, left_in}
 use Rattle.parse_column.specs.Read.{whole_of}
 use Rattle.parse_column.specs.declared.ColumnRefusal.{ColumnRefusal}
-use Rattle.refusal.specs.Outcome.{Outcome, accepted, refused}
+use Rattle.refusal.specs.Outcome.{Outcome, accepted, refused, and_then}
+use Rattle.site.specs.declared.Marked.{Marked}
 use Rattle.whole_column.specs.Answer.{Whole, all_accepted, first_refused, not_read, cells_after}
 
 -- accepted: status 0, and the cells hold the value; refused: the refusal's number, and the cells are as they were
 abbrev pub Told : {A : Type 0} → Outcome A → ℕ → A → A → Type 0
 Told (accepted v) status before after = (status ≡ 0) × (after ≡ v)
 Told (refused n) status before after = (status ≡ n) × (after ≡ before)
+
+-- what the cells `nanos` and `leap` hold of a site stamp: 1 with the mark of second 60, else 0
+abbrev pub in_cells : Outcome Marked → Outcome (ℤ × ℕ)
+in_cells o = and_then o (λ x. accepted (x.nanos, cond x.leap 1 0))
 
 -- the cell `place`: a refusal's place is written, and without one the cell is as it was
 abbrev pub ToldPlace : Option ℕ → ℕ → ℕ → Type 0

@@ -9,7 +9,7 @@ ghost use Rattle.place.specs.Read.{refusal_of, place_in};
 ghost use Rattle.interval.specs.Read.{year_month_outcome, year_month_place, day_time_outcome, day_time_place};
 ghost use Rattle.total.specs.Read.{interval_outcome, place_read};
 ghost use Rattle.listing.specs.Read.{length_said, place_told};
-ghost use Rattle.cells.specs.Cells.{Told, ToldPlace, Tells};
+ghost use Rattle.cells.specs.Cells.{Told, ToldPlace, Tells, in_cells};
 
 use count::Months;
 use interval::IntervalDayTime;
@@ -17,6 +17,7 @@ use listing::ListRefusal;
 use parse_column::ColumnRefusal;
 use place::IntervalRefusal;
 use refusal::Refusal;
+use site::Marked;
 use total::Interval;
 
 // A reader's answer of one cell, whatever its width.
@@ -29,6 +30,20 @@ pub fn put<T: Copy>(r: Result<T, Refusal>, out: &mut T) -> u8
             0
         }
         Err(why) => why.number(),
+    }
+}
+
+// A site stamp's answer: nanoseconds, and 1 with the mark of second 60, else 0.
+pub fn put_marked(r: Result<Marked, Refusal>, nanos: &mut i64, leap: &mut u8) -> u8
+    ensures { Told (in_cells (outcome r)) result (nanos.old, leap.old) (nanos.new, leap.new) }
+{
+    match r {
+        Ok(x) => {
+            *nanos = x.nanos;
+            *leap = u8::from(x.leap);
+            0
+        }
+        Err(refusal) => refusal.number(),
     }
 }
 

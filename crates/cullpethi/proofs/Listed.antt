@@ -36,12 +36,14 @@ use Rattle.time.specs.Answer.{time_of_day, time_nanos}
 use Rattle.time.specs.Answer as Times
 use Rattle.stamp_text.specs.Answer.{day_of, Timed, time_of, is_ending, is_separator, on_time, on_date, plain_moment, in_nanos, stamp_nanos}
 use Rattle.datetime.specs.Moment.{moment, instant}
-use Rattle.site.specs.Site.{is_site, site_nanos}
+use Rattle.clock.specs.Clock.{held, nanos_of_day}
+use Rattle.clock.specs.declared.NaiveTime.{NaiveTime}
+use Rattle.site.specs.Site.{marked, is_site, if_site, on_moment, site_marked}
 use Rattle.stamp_column.specs.Answer.{timestamp_column}
 use Rattle.time_column.specs.Answer.{on_integer, time_column}
 use Rattle.refusal.proofs.Outcomes.{clash, same}
 use Rattle.unit.specs.Units.{unit_numbered}
-use Rattle.cells.specs.Cells.{Told}
+use Rattle.cells.specs.Cells.{Told, in_cells}
 use Rattle.cullpethi.specs.DefaultUnit.{in_unit}
 use Rattle.cullpethi.specs.Calls.{Call, string_to_timestamp_nanos, string_to_time_nanoseconds, site_stamp, parse, interval_year_month, interval_day_time, interval_month_day_nano, interval_month_day_nano_config, CellsOf, answer, Accepts, accepts, OnList, on_list}
 
@@ -69,30 +71,37 @@ then_numbered (refusal why h) f q = refusal why h
 
 time_part : (z : ℤ) (o : Option Timed) → Numbered (on_time z o)
 time_part z None = refusal Time (lit≤ tt)
-time_part z (Some x) = of_test (is_ending x.tail) (value (moment z x.nanos)) (refusal Tail (lit≤ tt))
+time_part z (Some x) = of_test (is_ending x.tail) (value (moment z x.time)) (refusal Tail (lit≤ tt))
 
 date_part : (t : List ℕ) (o : Option ℤ) → Numbered (on_date t o)
 date_part t None = refusal Date (lit≤ tt)
 date_part t (Some z) =
-    of_test (eqb (length t) 10) (value (moment z 0))
+    of_test (eqb (length t) 10) (value (moment z (held 0 0 0 0)))
     (of_test (is_separator (get_or t 10 0)) (time_part z (time_of (drop 11 t))) (refusal Separator (lit≤ tt)))
 
 a_moment : (t : List ℕ) → Numbered (plain_moment t)
 unfolding plain_moment
 a_moment t = date_part t (day_of t)
 
-a_stamp : (t : List ℕ) → Numbered (stamp_nanos t)
-a_stamp t =
-    then_numbered (well_formed t (a_moment t)) (λ m. in_nanos (instant m)) (λ m. of_test (in_signed 63 (instant m)) (value (instant m)) (refusal Range (lit≤ tt)))
+fitting : (z : ℤ) → Numbered (in_nanos z)
+fitting z = of_test (in_signed 63 z) (value z) (refusal Range (lit≤ tt))
 
-a_site_stamp : (t : List ℕ) → Numbered (site_nanos t)
-a_site_stamp t = then_numbered (a_stamp t) (λ z. cond (is_site t) (accepted z) (refused 12)) (λ z. of_test (is_site t) (value z) (refusal SiteStamp (lit≤ tt)))
+a_stamp : (t : List ℕ) → Numbered (stamp_nanos t)
+a_stamp t = then_numbered (well_formed t (a_moment t)) (λ m. in_nanos (instant m)) (λ m. fitting (instant m))
+
+a_site_stamp : (t : List ℕ) → Numbered (site_marked t)
+a_site_stamp t =
+    then_numbered (well_formed t (a_moment t)) (on_moment t)
+    (λ m. then_numbered (fitting (instant m)) (if_site t m.time.leap) (λ z. of_test (is_site t) (value (marked z m.time.leap)) (refusal SiteStamp (lit≤ tt))))
+
+its_cells : (t : List ℕ) → Numbered (in_cells (site_marked t))
+its_cells t = then_numbered (a_site_stamp t) (λ x. accepted (x.nanos, cond x.leap 1 0)) (λ x. value (x.nanos, cond x.leap 1 0))
 
 -- ---- times of day and dates
 
-of_day : (o : Option ℕ) → Numbered (Times.on_time o)
+of_day : (o : Option NaiveTime) → Numbered (Times.on_time o)
 of_day None = refusal TimeOfDay (lit≤ tt)
-of_day (Some n) = value (pos n)
+of_day (Some x) = value (pos (nanos_of_day x))
 
 a_time : (t : List ℕ) → Numbered (time_nanos t)
 a_time t = well_formed t (of_day (time_of_day t))
@@ -188,7 +197,7 @@ pub listed : (c : Call) (t : List ℕ) (n : ℕ) → answer c t ≡ refused n �
 unfolding year_month day_time plain_month_day_nano
 listed string_to_timestamp_nanos t n e h = number (a_stamp t) e
 listed string_to_time_nanoseconds t n e h = number (a_time t) e
-listed site_stamp t n e h = number (a_site_stamp t) e
+listed site_stamp t n e h = number (its_cells t) e
 listed (parse c) t n e h = number (a_column t c) e
 listed interval_year_month t n e h = number (a_narrowed to_year_months (an_interval precision Year t)) e
 listed interval_day_time t n e h = number (a_narrowed to_day_time (an_interval precision Day t)) e

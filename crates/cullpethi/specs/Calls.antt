@@ -10,7 +10,8 @@ use Rattle.refusal.specs.Outcome.{Outcome, accepted, number_of}
 use Rattle.refusal.specs.declared.Refusal.{Refusal}
 use Rattle.time.specs.Answer.{time_nanos}
 use Rattle.stamp_text.specs.Answer.{stamp_nanos}
-use Rattle.site.specs.Site.{site_nanos}
+use Rattle.site.specs.Site.{site_marked}
+use Rattle.cells.specs.Cells.{in_cells}
 use Rattle.unit.specs.Units.{unit_numbered}
 use Rattle.cullpethi.specs.DefaultUnit.{in_unit}
 
@@ -25,7 +26,7 @@ pub data Call : Type 0 where
 abbrev pub CellsOf : Call → Type 0
 CellsOf string_to_timestamp_nanos = ℤ
 CellsOf string_to_time_nanoseconds = ℤ
-CellsOf site_stamp = ℤ
+CellsOf site_stamp = ℤ × ℕ
 CellsOf (parse c) = ℤ
 CellsOf interval_year_month = ℤ
 CellsOf interval_day_time = DayTime
@@ -36,7 +37,7 @@ CellsOf (interval_month_day_nano_config unit) = Counts
 abbrev pub answer : (c : Call) → List ℕ → Outcome (CellsOf c)
 answer string_to_timestamp_nanos t = stamp_nanos t
 answer string_to_time_nanoseconds t = time_nanos t
-answer site_stamp t = site_nanos t
+answer site_stamp t = in_cells (site_marked t)
 answer (parse c) t = column c t
 answer interval_year_month t = year_month precision t
 answer interval_day_time t = day_time precision t

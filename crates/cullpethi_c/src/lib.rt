@@ -9,13 +9,13 @@ ghost use Rattle.rule.specs.Meaning.{day_time_of};
 ghost use Rattle.rule.specs.Contribution.{counts};
 ghost use Rattle.time.specs.Answer.{time_nanos};
 ghost use Rattle.stamp_text.specs.Answer.{stamp_nanos};
-ghost use Rattle.site.specs.Site.{site_nanos};
+ghost use Rattle.site.specs.Site.{site_marked};
 ghost use Rattle.unit.specs.Units.{unit_numbered};
 ghost use Rattle.unit.specs.declared.IntervalUnit.TheVariants.{Year, Month, Day};
 ghost use Rattle.place.specs.Where.{place as place_of};
 ghost use Rattle.interval_text.specs.Text.{interval_text};
 ghost use Rattle.refusal.specs.Outcome.{accepted};
-ghost use Rattle.cells.specs.Cells.{Told, ToldPlace, ToldText, ToldColumn};
+ghost use Rattle.cells.specs.Cells.{Told, ToldPlace, ToldText, ToldColumn, in_cells};
 ghost use Rattle.parse_column.specs.Numbers.{column_numbered};
 ghost use Rattle.cullpethi.specs.ColumnNumber.{in_column};
 ghost use Rattle.cullpethi.specs.DefaultUnit.{in_unit, place_in_unit, listing_in_unit};
@@ -37,12 +37,12 @@ pub extern "C" fn cullpethi_string_to_time_nanoseconds(text: &[u8], nanos: &mut 
     cullpethi::cullpethi_string_to_time_nanoseconds(text, nanos)
 }
 
-// A site stamp, in nanoseconds since 1970-01-01.
+// A site stamp, in nanoseconds since 1970-01-01, and the mark of second 60.
 #[unsafe(no_mangle)]
-pub extern "C" fn cullpethi_site_stamp(text: &[u8], nanos: &mut i64) -> u8
-    ensures { Told (site_nanos text.now) result nanos.old nanos.new }
+pub extern "C" fn cullpethi_site_stamp(text: &[u8], nanos: &mut i64, leap: &mut u8) -> u8
+    ensures { Told (in_cells (site_marked text.now)) result (nanos.old, leap.old) (nanos.new, leap.new) }
 {
-    cullpethi::cullpethi_site_stamp(text, nanos)
+    cullpethi::cullpethi_site_stamp(text, nanos, leap)
 }
 
 // A timestamp column in nanoseconds.

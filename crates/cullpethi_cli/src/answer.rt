@@ -1,6 +1,6 @@
 // The answer of each reader, with the unit of its counts behind it, which is why the columns stand here one by one.
 use crate::names::Reader;
-use crate::show::{Out, Outcome, count, interval, listed};
+use crate::show::{Out, Outcome, count, interval, listed, marked};
 use date_column::{Date32Type, Date64Type};
 use interval::{
     parse_interval_day_time, parse_interval_month_day_nano, parse_interval_month_day_nano_config,
@@ -31,7 +31,7 @@ const SECONDS: &[u8] = b" seconds";
 pub fn of(reader: Reader, text: &[u8], out: &mut Out) -> Outcome {
     match reader {
         Reader::StampNanos => count(string_to_timestamp_nanos(text), NANOS, out),
-        Reader::SiteStamp => count(site_stamp(text), NANOS, out),
+        Reader::SiteStamp => marked(site_stamp(text), NANOS, out),
         Reader::TimestampNanosecond => count(TimestampNanosecondType::parse(text), NANOS, out),
         Reader::TimestampMicrosecond => count(TimestampMicrosecondType::parse(text), MICROS, out),
         Reader::TimestampMillisecond => count(TimestampMillisecondType::parse(text), MILLIS, out),

@@ -101,7 +101,7 @@ fn stamps(out: &mut Out) {
         b"
 Stamps in UTC, counted from 1970-01-01:
   string_to_timestamp_nanos   in nanoseconds
-  site_stamp                  in nanoseconds
+  site_stamp                  in nanoseconds, with ', leap second' behind them where the second is 60
   timestamp_nanosecond timestamp_microsecond timestamp_millisecond timestamp_second
                               in that unit, cut toward zero; a text that is refused is read trimmed, with no tab,
                               line feed, form feed, carriage return or space at its ends

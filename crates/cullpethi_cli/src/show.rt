@@ -8,6 +8,7 @@ use listing::ListRefusal;
 use place::IntervalRefusal;
 use refusal::Refusal;
 use room::Room;
+use site::Marked;
 use total::Interval;
 
 pub type Out = Room<65536>;
@@ -77,6 +78,20 @@ pub fn count<Z: Into<i64>>(r: Result<Z, Refusal>, unit: &[u8], out: &mut Out) ->
     match r {
         Ok(z) => {
             put_count(z, unit, out);
+            Outcome::Read
+        }
+        Err(why) => refused_whole(why, out),
+    }
+}
+
+// A count, and the mark of second 60 where it is set.
+pub fn marked(r: Result<Marked, Refusal>, unit: &[u8], out: &mut Out) -> Outcome {
+    match r {
+        Ok(x) => {
+            put_count(x.nanos, unit, out);
+            if x.leap {
+                out.put(b", leap second");
+            }
             Outcome::Read
         }
         Err(why) => refused_whole(why, out),

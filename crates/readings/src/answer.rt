@@ -3,6 +3,7 @@ use crate::{columns, intervals, printing, show, whole};
 use calendar::days_from_ymd;
 use lines::input::split_once;
 use number::parse::parse;
+use site::site_stamp;
 use std::io;
 
 pub fn of(out: &impl Print, name: &[u8], text: &[u8]) -> io::Result<()> {
@@ -13,6 +14,7 @@ pub fn of(out: &impl Print, name: &[u8], text: &[u8]) -> io::Result<()> {
         return shown;
     }
     match name {
+        b"site" => show::marked(out, site_stamp(text)),
         b"column" => whole::of(out, text),
         b"write" => printing::write(out, text),
         b"list" => printing::list(out, text),

@@ -1,7 +1,6 @@
-// Stamps, times of day, dates and their columns.
+// Stamps, times of day, dates and their columns, each read as one count.
 use date_column::{Date32Type, Date64Type};
 use refusal::Refusal;
-use site::site_stamp;
 use stamp_column::{
     TimestampMicrosecondType, TimestampMillisecondType, TimestampNanosecondType,
     TimestampSecondType,
@@ -17,7 +16,6 @@ use timestamp::stamp::string_to_timestamp_nanos;
 pub fn of(name: &[u8], text: &[u8]) -> Option<Result<i64, Refusal>> {
     Some(match name {
         b"stamp" => string_to_timestamp_nanos(text),
-        b"site" => site_stamp(text),
         b"ts_ns" => TimestampNanosecondType::parse(text),
         b"ts_us" => TimestampMicrosecondType::parse(text),
         b"ts_ms" => TimestampMillisecondType::parse(text),

@@ -1,5 +1,6 @@
 // What is written: to standard output, with no line end.
 use refusal::Refusal;
+use site::Marked;
 use std::io;
 
 pub fn bytes(out: &impl Print, s: &[u8]) -> io::Result<()> {
@@ -30,6 +31,18 @@ pub fn maybe<Z: Into<i64>>(out: &impl Print, z: Option<Z>) -> io::Result<()> {
 pub fn read(out: &impl Print, r: Result<i64, Refusal>) -> io::Result<()> {
     match r {
         Ok(z) => number(out, z),
+        Err(why) => refused(out, why),
+    }
+}
+
+// The nanoseconds, and 1 with the mark, else 0.
+pub fn marked(out: &impl Print, r: Result<Marked, Refusal>) -> io::Result<()> {
+    match r {
+        Ok(x) => {
+            number(out, x.nanos)?;
+            bytes(out, b" ")?;
+            number(out, u8::from(x.leap))
+        }
         Err(why) => refused(out, why),
     }
 }

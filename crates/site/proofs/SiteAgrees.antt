@@ -1,31 +1,35 @@
 -- The site stamps of the relation are those that the computation accepts, with the same value, which is the plain reader's.
 -- Assumes nothing.
 use mathlib.Core.Path.{◌≡◌, refl, sym, ap, ◌∙◌, subst}
-use mathlib.Core.Bool.{Bool, true, false, cond, ◌&&◌, ◌||◌, false≢true}
+use mathlib.Core.Bool.{Bool, true, false, ◌&&◌, ◌||◌, false≢true}
 use mathlib.Core.Logic.{inr, ⊎_elim, ◌↔◌}
 use mathlib.Core.List.{List, [], ◌∷◌, ◌++◌, append_assoc, append-nil}
 use Prim.Native.Nat.{ℕ, ◌+◌, ◌-◌, ◌≤◌, ◌<◌}
 use native.Mathlib.Omega.{arith}
 use lib.Dec.{eqb, leb}
 use lib.ListN.{length, get_or, drop, length-append, get_or-eq_default}
-use lib.IntN.{ℤ}
 use borrow.Author.Tests.{eqb-true, eq-eqb, le-leb, leb-true}
 use Rattle.refusal.specs.Outcome.{Outcome, accepted, refused, and_then}
 use Rattle.text.specs.Digits.{is_digit, value, two_digits, two_at}
 use Rattle.text.proofs.Bools.{and_left, and_right, by_test, both_ways, or_cases}
 use Rattle.text.proofs.Logic.{both}
-use Rattle.clock.specs.Clock.{Clock, since_midnight}
+use Rattle.clock.specs.Clock.{Clock, held_clock}
+use Rattle.clock.proofs.Held.{held_nanos}
 use Rattle.clock.specs.Grammar.{Figures, Secfrac, no_fraction, fraction}
 use Rattle.refusal.proofs.Outcomes.{clash}
 use Rattle.text.proofs.DigitLists.{two_value}
 use Rattle.text.proofs.Places.{not_sign, last_of}
 use Rattle.clock.proofs.Figures.{by_two, by_four, by_fields, two_figures, size_of, seconds_end}
 use Rattle.stamp_text.specs.Grammar.{Ymd, FullDate, full_date, PartialTime, colons, basic, capital, Ending, none_given, capital_z, small_z, Stamp, date_alone, date_time}
-use Rattle.stamp_text.specs.Answer.{has_colons, stamp_nanos}
-use Rattle.datetime.specs.Moment.{moment, instant}
-use Rattle.stamp_text.specs.Meaning.{names, Reads, reads}
-use Rattle.site.specs.Site.{LeapSecond, june, december, SiteStamp, site, SiteReads, site_reads, is_leap_day, is_leap, is_site, site_nanos}
-use Rattle.stamp_text.proofs.Agreement.{seam, date_size, read_as}
+use Rattle.number.specs.Widths.{in_signed}
+use Rattle.stamp_text.specs.Answer.{has_colons, datetime, stamp_nanos}
+use Rattle.datetime.specs.Moment.{Moment, moment, instant}
+use Rattle.stamp_text.specs.Meaning.{Names, names}
+use Rattle.site.specs.Site.{LeapSecond, june, december, SiteStamp, site, SiteReads, site_reads, marked, is_leap_day, is_leap, is_site, on_moment, site_marked}
+use Rattle.site.specs.declared.Marked.{Marked}
+use Rattle.stamp_text.proofs.Agreement as stamps
+use Rattle.stamp_text.proofs.Agreement.{seam, date_size}
+use Rattle.stamp_text.proofs.Marks as marks
 
 -- ---- a site stamp is a stamp, and passes the test
 
@@ -214,28 +218,47 @@ site_of (date_time a b n s f g p q) e = site_time s f p q (passed (a ++ (s ∷ (
 
 -- ---- the theorems
 
--- a text is a site stamp and read as a number of nanoseconds exactly where it is accepted with that number
-pub agrees : (t : List ℕ) (z : ℤ) → SiteReads t z ↔ (site_nanos t ≡ accepted z)
-agrees t z = (into, back (stamp_nanos t) refl)
+-- what is accepted: the moment that the plain reader names, in 64 bits, of a site stamp, and what is told of it
+record From (t : List ℕ) (x : Marked) : Type 0 where
+  moment_is : Moment
+  named : datetime t ≡ accepted moment_is
+  fits : in_signed 63 (instant moment_is) ≡ true
+  tests : is_site t ≡ true
+  told : marked (instant moment_is) moment_is.time.leap ≡ x
+
+accepted_from : (t : List ℕ) (x : Marked) → site_marked t ≡ accepted x → From t x
+accepted_from t x = by (datetime t) refl
   where
-    into : {z : ℤ} → SiteReads t z → site_nanos t ≡ accepted z
-    into (site_reads {d = d} {c = c} y s e ok fits) =
-        rw ((read_as t (instant (moment y (since_midnight c)))).0 (reads (moment y (since_midnight c)) (names y (is_plain s) e ok) fits), site_test_lem s)
-
-    from : {z : ℤ} → is_site t ≡ true → Reads t z → SiteReads t z
-    from s (reads m (names y p e ok) fits) = site_reads y (site_of p s) e ok fits
-
-    back : (o : Outcome ℤ) → stamp_nanos t ≡ o → and_then o (λ y. cond (is_site t) (accepted y) (refused 12)) ≡ accepted z → SiteReads t z
-    back (accepted y) p e =
+    by : (o : Outcome Moment) → datetime t ≡ o → and_then o (on_moment t) ≡ accepted x → From t x
+    by (refused n) p e = clash e
+    by (accepted m) p e =
+        by_test (in_signed 63 (instant m))
+        (λ f.
         by_test (is_site t)
-        (λ s. let q : accepted y ≡ accepted z = rw s at e in let v : y ≡ z = cc in from s ((read_as t z).1 (p ∙ ap accepted v)))
-        (λ s. clash (rw s at e))
-    back (refused n) p e = clash e
+        (λ s.
+        let q : accepted (marked (instant m) m.time.leap) ≡ accepted x = rw (f, s) at e in
+        record { moment_is = m; named = p; fits = f; tests = s; told = cc })
+        (λ s. clash (rw (f, s) at e)))
+        (λ f. clash (rw f at e))
+
+-- a text is a site stamp and read as nanoseconds and a mark exactly where it is accepted with them
+pub agrees : (t : List ℕ) (x : Marked) → SiteReads t x ↔ (site_marked t ≡ accepted x)
+agrees t x = (into, λ e. let y = accepted_from t x e in rw (← y.told) (from y.tests y.fits ((stamps.agrees t y.moment_is).1 y.named)))
+  where
+    into : {x : Marked} → SiteReads t x → site_marked t ≡ accepted x
+    into (site_reads {d = d} {c = c} z s e ok fits) =
+        let n = held_nanos c in
+        rw ((stamps.agrees t (moment z (held_clock c))).0 (names z (is_plain s) e ok), n, fits, site_test_lem s)
+
+    from : {m : Moment} → is_site t ≡ true → in_signed 63 (instant m) ≡ true → Names t m → SiteReads t (marked (instant m) m.time.leap)
+    from s fits (names {c = c} z p e ok) = let n = held_nanos c in rw n (site_reads z (site_of p s) e ok (rw n at fits))
 
 -- its value is the plain reader's
-pub plain_value : (t : List ℕ) (z : ℤ) → site_nanos t ≡ accepted z → stamp_nanos t ≡ accepted z
-plain_value t z = by (stamp_nanos t)
-  where
-    by : (o : Outcome ℤ) → and_then o (λ y. cond (is_site t) (accepted y) (refused 12)) ≡ accepted z → o ≡ accepted z
-    by (accepted y) e = by_test (is_site t) (λ s. rw s at e) (λ s. clash (rw s at e))
-    by (refused n) e = clash e
+pub plain_value : (t : List ℕ) (x : Marked) → site_marked t ≡ accepted x → stamp_nanos t ≡ accepted x.nanos
+plain_value t x e = let y = accepted_from t x e in rw (y.named, y.fits) (ap (λ (v : Marked). accepted v.nanos) y.told)
+
+-- its mark is set exactly where the second that it writes is 60
+pub mark : {t : List ℕ} {d : Ymd} {c : Clock} {x : Marked} → SiteStamp t d c → site_marked t ≡ accepted x → (x.leap ≡ true) ↔ (c.second ≡ 60)
+mark {t} {c = c} {x = x} s e =
+    let y = accepted_from t x e in
+    rw (← y.told) (marks.mark (is_plain s) y.named)

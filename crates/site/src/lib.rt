@@ -3,19 +3,31 @@
 
 ghost use Rattle.std.specs.Prelude.{◌≡◌};
 ghost use Rattle.refusal.specs.Outcome.{outcome};
-ghost use Rattle.site.specs.Site.{is_leap_day, is_site, site_nanos};
+ghost use Rattle.site.specs.Site.{is_leap_day, is_site, site_marked};
 
+use datetime::to_timestamp_nanos;
 use refusal::Refusal;
 use text::digits::{CAPITAL_T, CAPITAL_Z, digit, two};
-use timestamp::stamp;
+use timestamp::stamp::string_to_datetime;
 
-// The plain reader's value, if the text is a site stamp.
-pub fn site_stamp(s: &[u8]) -> Result<i64, Refusal>
-    ensures { outcome result ≡ site_nanos s.now }
+// Nanoseconds since 1970-01-01, and the mark of second 60.
+#[derive(Clone, Copy)]
+pub struct Marked {
+    pub nanos: i64,
+    pub leap: bool,
+}
+
+// The plain reader's value with the mark, if the text is a site stamp.
+pub fn site_stamp(s: &[u8]) -> Result<Marked, Refusal>
+    ensures { outcome result ≡ site_marked s.now }
 {
-    let z = stamp::string_to_timestamp_nanos(s)?;
+    let x = string_to_datetime(s)?;
+    let nanos = to_timestamp_nanos(x).ok_or(Refusal::Range)?;
     if is_site(s) {
-        Ok(z)
+        Ok(Marked {
+            nanos,
+            leap: x.time.leap,
+        })
     } else {
         Err(Refusal::SiteStamp)
     }

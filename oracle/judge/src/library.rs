@@ -10,7 +10,7 @@ pub mod raw {
     extern "C" {
         pub fn cullpethi_string_to_timestamp_nanos(text: *const u8, len: usize, out: &mut i64) -> u8;
         pub fn cullpethi_string_to_time_nanoseconds(text: *const u8, len: usize, out: &mut i64) -> u8;
-        pub fn cullpethi_site_stamp(text: *const u8, len: usize, out: &mut i64) -> u8;
+        pub fn cullpethi_site_stamp(text: *const u8, len: usize, nanos: &mut i64, leap: &mut u8) -> u8;
         pub fn cullpethi_parse_timestamp_nanosecond(text: *const u8, len: usize, out: &mut i64) -> u8;
         pub fn cullpethi_parse_timestamp_microsecond(text: *const u8, len: usize, out: &mut i64) -> u8;
         pub fn cullpethi_parse_timestamp_millisecond(text: *const u8, len: usize, out: &mut i64) -> u8;
@@ -144,8 +144,10 @@ pub fn told(reader: Reader, s: &[u8]) -> Told {
     }
 }
 
+/// The nanoseconds, and 1 with the mark of second 60, else 0.
 pub fn site_stamp(s: &[u8]) -> Answer {
-    wide(cullpethi_site_stamp, (s.as_ptr(), s.len())).0
+    let value = |(nanos, leap)| Two(nanos, leap as i64);
+    placed((BEFORE, 0x5A), value, |(nanos, leap), _| unsafe { cullpethi_site_stamp(s.as_ptr(), s.len(), nanos, leap) }).0
 }
 
 /// The same as `told`, without the place.

@@ -1,9 +1,9 @@
-//! The site stamp, which is not in the Rust: the Rust's answer to the text, and 12 for a text that is not written as document 01 and document
-//! 02, No. 5, write its value. The library looks at the text, the texts compared with are made here of the value.
-use crate::{library, rust_bytes, Answer, One, Reader, Refused};
+//! The site stamp, which is not in the Rust: the Rust's answer to the text with the mark of second 60, and 12 for a text that is not written
+//! as document 01 and document 02, No. 5, write its value. The library looks at the text, the texts compared with are made here of the value.
+use crate::{library, rust_bytes, Answer, One, Reader, Refused, Two};
 use chrono::{NaiveDateTime, Timelike};
 
-/// The value as a site stamp with so many fraction digits, perhaps by a second 60: 23:59:60 of 30 June and of 31 December.
+/// The value as a site stamp with so many fraction digits, and perhaps by a second 60: 23:59:60 of 30 June and of 31 December.
 fn written(nanos: i64, digits: usize) -> [Option<String>; 2] {
     let (seconds, part) = (nanos.div_euclid(1_000_000_000), format!(".{:09}", nanos.rem_euclid(1_000_000_000)));
     let fraction = if digits == 0 { "" } else { &part[..=digits] };
@@ -21,8 +21,9 @@ fn wanted(text: &[u8]) -> Answer {
         n @ 22..=30 => n - 21,
         _ => return Refused(Some(12)),
     };
-    let is_written = written(z, digits).into_iter().flatten().any(|site| site.as_bytes() == text);
-    if is_written { answer } else { Refused(Some(12)) }
+    let by = written(z, digits).iter().position(|site| site.as_ref().is_some_and(|site| site.as_bytes() == text));
+    // The second of the two is by a second 60.
+    by.map_or(Refused(Some(12)), |leap| Two(z, leap as i64))
 }
 
 /// Site stamps compared: all, accepted, of these by a second 60, refused with 12, different.
@@ -48,10 +49,10 @@ impl std::ops::AddAssign for Sites {
 impl Sites {
     pub fn site(&mut self, text: &[u8]) {
         let (want, ours) = (wanted(text), library::site_stamp(text));
-        let accepted = matches!(want, One(_));
+        let accepted = matches!(want, Two(..));
         self.compared += 1;
         self.accepted += accepted as u64;
-        self.second_60 += (accepted && &text[17..19] == b"60") as u64;
+        self.second_60 += matches!(want, Two(_, 1)) as u64;
         self.no_site += (want == Refused(Some(12))) as u64;
         if ours != want {
             self.differ += 1;

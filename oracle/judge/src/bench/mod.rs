@@ -9,24 +9,24 @@ use crate::{rust_bytes, Reader, Refused};
 use sides::Times;
 use texts::{Set, SETS};
 
-/// A reader by the name that its table has, and the most that it may take of the Rust's time on realistic texts.
-pub const READERS: [(&str, Reader, f64); 16] = [
-    ("string_to_timestamp_nanos", Reader::StringToTimestampNanos, 1.00),
-    ("TimestampNanosecondType", Reader::TimestampNanosecond, 1.00),
-    ("TimestampMicrosecondType", Reader::TimestampMicrosecond, 1.00),
-    ("TimestampMillisecondType", Reader::TimestampMillisecond, 1.00),
-    ("TimestampSecondType", Reader::TimestampSecond, 1.00),
-    ("string_to_time_nanoseconds", Reader::StringToTimeNanoseconds, 1.15),
-    ("Time64NanosecondType", Reader::Time64Nanosecond, 1.20),
-    ("Time64MicrosecondType", Reader::Time64Microsecond, 1.20),
-    ("Time32MillisecondType", Reader::Time32Millisecond, 1.20),
-    ("Time32SecondType", Reader::Time32Second, 1.20),
-    ("Date32Type", Reader::Date32, 1.30),
-    ("Date64Type", Reader::Date64, 1.30),
-    ("parse_interval_year_month", Reader::IntervalYearMonth, 0.40),
-    ("parse_interval_day_time", Reader::IntervalDayTime, 0.40),
-    ("parse_interval_month_day_nano", Reader::IntervalMonthDayNano, 0.40),
-    ("parse_interval_month_day_nano_config", Reader::IntervalConfig(5), 0.40),
+/// A reader by the name that its table has, the most that it may take of the Rust's time on realistic texts, and on long ones, if that is set.
+pub const READERS: [(&str, Reader, f64, Option<f64>); 16] = [
+    ("string_to_timestamp_nanos", Reader::StringToTimestampNanos, 1.00, None),
+    ("TimestampNanosecondType", Reader::TimestampNanosecond, 1.00, None),
+    ("TimestampMicrosecondType", Reader::TimestampMicrosecond, 1.00, None),
+    ("TimestampMillisecondType", Reader::TimestampMillisecond, 1.00, None),
+    ("TimestampSecondType", Reader::TimestampSecond, 1.00, None),
+    ("string_to_time_nanoseconds", Reader::StringToTimeNanoseconds, 1.00, Some(1.15)),
+    ("Time64NanosecondType", Reader::Time64Nanosecond, 1.00, Some(1.15)),
+    ("Time64MicrosecondType", Reader::Time64Microsecond, 1.00, Some(1.15)),
+    ("Time32MillisecondType", Reader::Time32Millisecond, 1.00, Some(1.15)),
+    ("Time32SecondType", Reader::Time32Second, 1.00, Some(1.15)),
+    ("Date32Type", Reader::Date32, 1.30, None),
+    ("Date64Type", Reader::Date64, 1.30, None),
+    ("parse_interval_year_month", Reader::IntervalYearMonth, 0.40, None),
+    ("parse_interval_day_time", Reader::IntervalDayTime, 0.40, None),
+    ("parse_interval_month_day_nano", Reader::IntervalMonthDayNano, 0.40, None),
+    ("parse_interval_month_day_nano_config", Reader::IntervalConfig(5), 0.40, None),
 ];
 
 /// A reader's times on each set.
@@ -34,6 +34,7 @@ pub struct Row {
     pub name: &'static str,
     pub reader: Reader,
     pub bar: f64,
+    pub long_bar: Option<f64>,
     pub times: [Option<Times>; 5],
 }
 
@@ -44,7 +45,8 @@ impl Row {
     }
 
     pub fn met(&self) -> bool {
-        self.ratio() <= self.bar
+        let long = self.times[2].map_or(f64::NAN, |t| t.ratio);
+        self.ratio() <= self.bar && self.long_bar.is_none_or(|bar| long <= bar)
     }
 
     fn cell(&self, i: usize) -> String {
@@ -53,7 +55,8 @@ impl Row {
 
     fn line(&self) -> String {
         let [realistic, short, long, refused, later] = [0, 1, 2, 3, 4].map(|i| self.cell(i));
-        format!("| `{}` | {realistic} | {:.2} | {short} | {long} | {refused} | {later} |", self.name, self.bar)
+        let bar = self.long_bar.map_or(format!("{:.2}", self.bar), |bar| format!("{:.2}, long {bar:.2}", self.bar));
+        format!("| `{}` | {realistic} | {bar} | {short} | {long} | {refused} | {later} |", self.name)
     }
 }
 
@@ -75,7 +78,10 @@ pub fn rows(same_order: bool) -> Vec<Row> {
         Some(sides::times(reader, sides::Order::new(&texts, same_order)))
     };
     timed(READERS[0].1, Set::Realistic);
-    READERS.iter().map(|&(name, reader, bar)| Row { name, reader, bar, times: SETS.map(|set| timed(reader, set)) }).collect()
+    READERS
+        .iter()
+        .map(|&(name, reader, bar, long_bar)| Row { name, reader, bar, long_bar, times: SETS.map(|set| timed(reader, set)) })
+        .collect()
 }
 
 /// The table, in Markdown.
@@ -83,8 +89,8 @@ pub fn table(rows: &[Row]) -> String {
     let head = "| reader | realistic | bar | short | long | refused | a later attempt |\n|---|---|---|---|---|---|---|";
     let lines: Vec<String> = rows.iter().map(Row::line).collect();
     let missed: Vec<&str> = rows.iter().filter(|r| !r.met()).map(|r| r.name).collect();
-    let verdict = if missed.is_empty() { "every bar is met".to_string() } else { format!("above its bar: {}", missed.join(", ")) };
-    format!("{head}\n{}\n\nOn realistic texts {verdict}.", lines.join("\n"))
+    let verdict = if missed.is_empty() { "Every bar is met".to_string() } else { format!("Above a bar: {}", missed.join(", ")) };
+    format!("{head}\n{}\n\n{verdict}.", lines.join("\n"))
 }
 
 /// Two texts of each set, in Markdown.
