@@ -1,6 +1,6 @@
 -- A time as it is held, and second 60 as its mark. Assumes nothing.
 use mathlib.Core.Path.{◌≡◌, sym, ap, ◌∙◌}
-use mathlib.Core.Bool.{true, false, ◌&&◌}
+use mathlib.Core.Bool.{true, ◌&&◌}
 use mathlib.Core.Logic.{◌↔◌}
 use mathlib.Core.List.{List, [], ◌∷◌, ◌++◌, append_assoc}
 use Prim.Native.Nat.{ℕ, ◌<◌}
@@ -11,8 +11,9 @@ use Rattle.text.specs.Digits.{value}
 use Rattle.text.proofs.Bools.{and_left, by_test, within_is}
 use Rattle.text.proofs.Logic.{both}
 use Rattle.text.proofs.DigitLists.{two_value}
-use Rattle.clock.specs.Clock.{Clock, clock, in_range, nanos_of, since_midnight, held_clock, Proper, nanos_of_day}
+use Rattle.clock.specs.Clock.{Clock, in_range, nanos_of, since_midnight, held_clock, Proper, nanos_of_day}
 use Rattle.clock.specs.Grammar.{Figures}
+use Rattle.clock.specs.Second60.{at_59, unmarked, In59}
 use Rattle.clock.specs.declared.NaiveTime.{NaiveTime}
 use Rattle.clock.proofs.Figures.{by_two}
 
@@ -32,13 +33,6 @@ held_mark c e = (λ p. eqb-true c.second 60 (sym (ap (λ (x : NaiveTime). x.leap
 
 -- ---- second 59 in place of second 60
 
-abbrev pub at_59 : Clock → Clock
-at_59 c = clock c.hour c.minute 59 c.fraction
-
--- a time without its mark
-abbrev pub unmarked : NaiveTime → NaiveTime
-unmarked t = record { hour = t.hour; minute = t.minute; second = t.second; leap = false; nanos = t.nanos }
-
 -- the same time, but for the mark
 pub held_59 : (c : Clock) → c.second ≡ 60 → held_clock (at_59 c) ≡ unmarked (held_clock c)
 held_59 c e = rw (eq-eqb c.second 60 e)
@@ -48,13 +42,7 @@ in_range_59 c ok =
     let r = both (leb c.hour 23) (leb c.minute 59 && leb c.second 60) ok in
     rw (r.0, and_left (leb c.minute 59) (leb c.second 60) r.1)
 
--- ---- a text with second 60, and the same text with 59 in its place
-
-pub record In59 (t u : List ℕ) : Type 0 where
-  pub before : List ℕ
-  pub behind : List ℕ
-  pub sixty : t ≡ before ++ (0x36 ∷ 0x30 ∷ behind)
-  pub fifty_nine : u ≡ before ++ (0x35 ∷ 0x39 ∷ behind)
+-- ---- in a text
 
 -- a second of two digits
 pub second_60 : {s : List ℕ} → Figures 2 s → value 0 s ≡ 60 → s ≡ 0x36 ∷ 0x30 ∷ []

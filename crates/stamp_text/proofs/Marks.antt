@@ -15,7 +15,8 @@ use Rattle.refusal.specs.Outcome.{accepted}
 use Rattle.refusal.proofs.Outcomes.{clash}
 use Rattle.clock.specs.Clock.{Clock, in_range, held_clock}
 use Rattle.clock.proofs.Figures.{two_figures}
-use Rattle.clock.proofs.Held.{held_mark, held_59, at_59, unmarked, in_range_59, In59, second_60, put_before, put_behind}
+use Rattle.clock.specs.Second60.{at_59, unmarked, In59}
+use Rattle.clock.proofs.Held.{held_mark, held_59, in_range_59, second_60, put_before, put_behind}
 use Rattle.datetime.specs.Moment.{Moment, moment}
 use Rattle.stamp_text.specs.Grammar.{Ymd, PartialTime, colons, basic, Stamp, date_alone, date_time}
 use Rattle.stamp_text.specs.Answer.{datetime}

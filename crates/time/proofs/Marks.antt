@@ -13,7 +13,8 @@ use Rattle.text.proofs.Logic.{none_some}
 use Rattle.clock.specs.Clock.{Clock, in_range, held_clock, Proper}
 use Rattle.clock.specs.declared.NaiveTime.{NaiveTime}
 use Rattle.clock.proofs.Figures.{two_figures}
-use Rattle.clock.proofs.Held.{held_mark, held_59, held_proper, at_59, unmarked, in_range_59, In59, second_60, put_behind}
+use Rattle.clock.specs.Second60.{at_59, unmarked, In59}
+use Rattle.clock.proofs.Held.{held_mark, held_59, held_proper, in_range_59, second_60, put_behind}
 use Rattle.time.specs.Grammar.{Written, minutes, seconds, TimeOfDay, full}
 use Rattle.time.specs.Grammar as Grammar
 use Rattle.time.specs.Answer.{time_of_day}
