@@ -13,8 +13,11 @@ Told (accepted v) status before after = (status ≡ 0) × (after ≡ v)
 Told (refused n) status before after = (status ≡ n) × (after ≡ before)
 
 -- what the cells `nanos` and `leap` hold of a site stamp: 1 with the mark of second 60, else 0
+abbrev pub cells_of : Marked → ℤ × ℕ
+cells_of x = (x.nanos, cond x.leap 1 0)
+
 abbrev pub in_cells : Outcome Marked → Outcome (ℤ × ℕ)
-in_cells o = and_then o (λ x. accepted (x.nanos, cond x.leap 1 0))
+in_cells o = and_then o (λ x. accepted (cells_of x))
 
 -- the cell `place`: a refusal's place is written, and without one the cell is as it was
 abbrev pub ToldPlace : Option ℕ → ℕ → ℕ → Type 0

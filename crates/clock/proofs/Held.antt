@@ -72,3 +72,12 @@ put_behind q x = record {
   sixty = rw x.sixty (simp append_assoc);
   fifty_nine = rw x.fifty_nine (simp append_assoc);
 }
+
+-- hh:mm:ss and what follows, with 59 for the seconds
+pub colons_59 : (h m x : List ℕ) {s : List ℕ} → s ≡ 0x36 ∷ 0x30 ∷ [] → In59 (h ++ (0x3A ∷ (m ++ (0x3A ∷ (s ++ x))))) (h ++ (0x3A ∷ (m ++ (0x3A ∷ 0x35 ∷ 0x39 ∷ x))))
+colons_59 h m x e = record {
+  before = h ++ (0x3A ∷ (m ++ (0x3A ∷ [])));
+  behind = x;
+  sixty = rw e (simp append_assoc);
+  fifty_nine = simp append_assoc;
+}

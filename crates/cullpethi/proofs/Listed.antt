@@ -43,7 +43,7 @@ use Rattle.stamp_column.specs.Answer.{timestamp_column}
 use Rattle.time_column.specs.Answer.{on_integer, time_column}
 use Rattle.refusal.proofs.Outcomes.{clash, same}
 use Rattle.unit.specs.Units.{unit_numbered}
-use Rattle.cells.specs.Cells.{Told, in_cells}
+use Rattle.cells.specs.Cells.{Told, cells_of, in_cells}
 use Rattle.cullpethi.specs.DefaultUnit.{in_unit}
 use Rattle.cullpethi.specs.Calls.{Call, string_to_timestamp_nanos, string_to_time_nanoseconds, site_stamp, parse, interval_year_month, interval_day_time, interval_month_day_nano, interval_month_day_nano_config, CellsOf, answer, Accepts, accepts, OnList, on_list}
 
@@ -95,7 +95,7 @@ a_site_stamp t =
     (λ m. then_numbered (fitting (instant m)) (if_site t m.time.leap) (λ z. of_test (is_site t) (value (marked z m.time.leap)) (refusal SiteStamp (lit≤ tt))))
 
 its_cells : (t : List ℕ) → Numbered (in_cells (site_marked t))
-its_cells t = then_numbered (a_site_stamp t) (λ x. accepted (x.nanos, cond x.leap 1 0)) (λ x. value (x.nanos, cond x.leap 1 0))
+its_cells t = then_numbered (a_site_stamp t) (λ x. accepted (cells_of x)) (λ x. value (cells_of x))
 
 -- ---- times of day and dates
 

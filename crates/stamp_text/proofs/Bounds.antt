@@ -22,7 +22,7 @@ unfolding nanos_of value
 stamp_most (date_alone (full_date y m d p q r)) = (figures_most p, omega arith)
 stamp_most (date_time a b e s (full_date y m d p q r) g u v) = (figures_most p, time_most u)
 
--- the day of a stamp lies within 4,400,000 days of 1970, and its nanoseconds are less than a second
+-- the day of a stamp lies within 4,400,000 days of 1970, and its time keeps the record's rule
 pub moment_most : {t : List ℕ} {m : Moment} → Names t m → Within 4400000 m.day × Proper m.time
 moment_most (names {d = d} {c = c} z s e ok) =
     let b = stamp_most s in

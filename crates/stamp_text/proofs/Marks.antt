@@ -16,7 +16,7 @@ use Rattle.refusal.proofs.Outcomes.{clash}
 use Rattle.clock.specs.Clock.{Clock, in_range, held_clock}
 use Rattle.clock.proofs.Figures.{two_figures}
 use Rattle.clock.specs.Second60.{at_59, unmarked, In59}
-use Rattle.clock.proofs.Held.{held_mark, held_59, in_range_59, second_60, put_before, put_behind}
+use Rattle.clock.proofs.Held.{held_mark, held_59, in_range_59, second_60, colons_59, put_before, put_behind}
 use Rattle.datetime.specs.Moment.{Moment, moment}
 use Rattle.stamp_text.specs.Grammar.{Ymd, PartialTime, colons, basic, Stamp, date_alone, date_time}
 use Rattle.stamp_text.specs.Answer.{datetime}
@@ -64,7 +64,7 @@ time_59 : {b : List ℕ} {c : Clock} → PartialTime b c → c.second ≡ 60 →
 unfolding value
 time_59 (colons h m s x f p q u v) e = record {
   bytes = h ++ (0x3A ∷ (m ++ (0x3A ∷ 0x35 ∷ 0x39 ∷ x)));
-  same = record { before = h ++ (0x3A ∷ (m ++ (0x3A ∷ []))); behind = x; sixty = rw (second_60 u e) (simp append_assoc); fifty_nine = simp append_assoc };
+  same = colons_59 h m x (second_60 u e);
   time = colons h m (0x35 ∷ 0x39 ∷ []) x f p q (two_figures 0x35 0x39 refl refl) v;
 }
 time_59 (basic h m s p q u) e = record {

@@ -3,7 +3,7 @@
 use mathlib.Core.Path.{◌≡◌, refl, sym, ◌∙◌}
 use mathlib.Core.Bool.{true}
 use mathlib.Core.Logic.{◌↔◌}
-use mathlib.Core.List.{List, [], ◌∷◌, ◌++◌, append_assoc}
+use mathlib.Core.List.{List, [], ◌∷◌, ◌++◌}
 use Rattle.std.specs.Prelude.{Some}
 use Prim.Native.Nat.{ℕ}
 use native.Mathlib.Omega.{arith}
@@ -14,7 +14,7 @@ use Rattle.clock.specs.Clock.{Clock, in_range, held_clock, Proper}
 use Rattle.clock.specs.declared.NaiveTime.{NaiveTime}
 use Rattle.clock.proofs.Figures.{two_figures}
 use Rattle.clock.specs.Second60.{at_59, unmarked, In59}
-use Rattle.clock.proofs.Held.{held_mark, held_59, held_proper, in_range_59, second_60, put_behind}
+use Rattle.clock.proofs.Held.{held_mark, held_59, held_proper, in_range_59, second_60, colons_59, put_behind}
 use Rattle.time.specs.Grammar.{Written, minutes, seconds, TimeOfDay, full}
 use Rattle.time.specs.Grammar as Grammar
 use Rattle.time.specs.Answer.{time_of_day}
@@ -52,7 +52,7 @@ unfolding value
 written_59 (minutes h m q r) e = absurd (omega (arith, e))
 written_59 (seconds h m s x f q r u v) e = record {
   bytes = h ++ (0x3A ∷ (m ++ (0x3A ∷ 0x35 ∷ 0x39 ∷ x)));
-  same = record { before = h ++ (0x3A ∷ (m ++ (0x3A ∷ []))); behind = x; sixty = rw (second_60 u e) (simp append_assoc); fifty_nine = simp append_assoc };
+  same = colons_59 h m x (second_60 u e);
   written = seconds h m (0x35 ∷ 0x39 ∷ []) x f q r (two_figures 0x35 0x39 refl refl) v;
 }
 
