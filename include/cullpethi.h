@@ -23,7 +23,8 @@ enum cullpethi_status {
     CULLPETHI_DATE = 2,          /* no date: no shape of one, no day of the calendar, or a stamp of fewer than 10 bytes */
     CULLPETHI_SEPARATOR = 3,     /* byte 10 of a longer stamp is not T, t or a space */
     CULLPETHI_TIME = 4,          /* no time part of a stamp, or a field of it is out of range */
-    CULLPETHI_TAIL = 5,          /* bytes remain after the time that are not a single final z or Z */
+    CULLPETHI_TAIL = 5,          /* bytes remain after the time that are neither a single final z or Z nor of an offset's shape */
+    CULLPETHI_OFFSET = 15,       /* the hours or minutes of an offset are out of range */
     CULLPETHI_RANGE = 6,         /* the nanoseconds do not fit 64 signed bits, or the day number does not fit 32 */
     CULLPETHI_TIME_OF_DAY = 7,   /* a time-of-day text is neither a time nor, for a time column, an integer of its width */
     CULLPETHI_INTERVAL = 8,      /* an interval text has no division */
@@ -67,7 +68,8 @@ enum cullpethi_column {
     CULLPETHI_DATE64 = 9
 };
 
-/* A stamp in UTC, in nanoseconds since 1970-01-01: 2020-09-08T13:42:29.190855Z, 2020-09-08 13:42:29, 2020-09-08. */
+/* A stamp, in nanoseconds since 1970-01-01T00:00:00Z: 2020-09-08T13:42:29.190855Z, 2020-09-08 13:42:29, 2020-09-08; with an offset
+   2020-09-08T15:42:29+02:00, 2020-09-08 13:42:29 -0130, 2020-09-08T14:42:29+01. */
 uint8_t cullpethi_string_to_timestamp_nanos(const uint8_t *text, size_t len, int64_t *nanos);
 
 /* A time of day, in nanoseconds since midnight: 09:26:56.123 AM, 23:59:59, 6:00 pm. */
@@ -104,7 +106,7 @@ uint8_t cullpethi_parse_time32_millisecond(const uint8_t *text, size_t len, int3
 /* A time column in seconds, or an integer of 32 bits. */
 uint8_t cullpethi_parse_time32_second(const uint8_t *text, size_t len, int32_t *seconds);
 
-/* A date column in days since 1970-01-01: the day of a date or of a stamp, as given or trimmed. */
+/* A date column in days since 1970-01-01: the day of a date, or of a stamp in UTC, as given or trimmed. */
 uint8_t cullpethi_parse_date32(const uint8_t *text, size_t len, int32_t *days);
 
 /* The four readers of intervals have a cell `place`: where in the text a refusal is, as a number of bytes from 0 to `len`.

@@ -77,7 +77,8 @@ static size_t used(int function, const char *words) {
 int main(void) {
     static const char *const texts[] = {
         "", "x", "2020-09-08T13:42:29.190855Z", "2020-09-08 134229", "2020-09-08", " 2020-09-08T13:42:29.190855999999 ", "2020-1-1xy", "20200908",
-        "+2020-09-08", "-5877641-06-23", "2020-09-08T13:42:29+01:00", "2016-12-31T23:59:60Z", "2020-02-30", "\xC3\xA9\xE2\x84\xAA\xF0\x9F\x98\x80",
+        "+2020-09-08", "-5877641-06-23", "2020-09-08T13:42:29+01:00",
+        "2020-09-08T13:42:29 \t\xE3\x80\x80\xC2\x85-0130", "2020-09-08T13:42:29+24:00", "2016-12-31T23:59:60Z", "2020-02-30", "\xC3\xA9\xE2\x84\xAA\xF0\x9F\x98\x80",
         "\xFF\xFF\xFF\xFF\xFF\xFF\xFF\xFF\xFF\xFF\xFF", "09:26:56.123456789123 AM", " 6:00 pm ", "23:59:60", "1234", "-9223372036854775808",
         "1 day", "1.5 months -.5 days", "1 century 2 decades 3 years 4 mons 5 weeks 6 days 7 hours 8 mins 9.123456789012345 secs 1 ms 2 us 3 nanoseconds",
         "1 day 1 d", "1 day 2 hours 3 DAYS 4 hours", "1 day 2147483647 months 1 year -1 decade", "1\xE3\x80\x80" "day 1-2 days", "1 day x",

@@ -155,6 +155,12 @@ static void stamps(void) {
     REFUSED(string_to_timestamp_nanos, "1970-01-01_", CULLPETHI_SEPARATOR);
     REFUSED(string_to_timestamp_nanos, "1970-01-01T", CULLPETHI_TIME);
     REFUSED(string_to_timestamp_nanos, "1970-01-01T00:00:00+", CULLPETHI_TAIL);
+    REFUSED(string_to_timestamp_nanos, "1970-01-01T00:00:00+24:00", CULLPETHI_OFFSET);
+    REFUSED(string_to_timestamp_nanos, "1970-01-01T00:00:00+24:00\xFF", CULLPETHI_NOT_UTF8);
+    IS64(string_to_timestamp_nanos, "1970-01-01T01:00:00+01:00", 0);
+    IS64(string_to_timestamp_nanos, "1970-01-01T00:00:00\xE3\x80\x80-0130", 5400000000000);
+    IS64(string_to_timestamp_nanos, "2262-04-12T00:47:16.854775807+01", INT64_MAX);
+    REFUSED(string_to_timestamp_nanos, "2262-04-12T00:47:16.854775808+01", CULLPETHI_RANGE);
     REFUSED(string_to_timestamp_nanos, "2262-04-11T23:47:16.854775808Z", CULLPETHI_RANGE);
     IS64(string_to_time_nanoseconds, "6:00 pm", 64800000000000);
     IS64(string_to_time_nanoseconds, "23:59:60", 86400000000000);
@@ -169,6 +175,8 @@ static void stamps(void) {
     REFUSED(site_stamp, "2015-07-31T23:59:60Z", CULLPETHI_SITE_STAMP);
     REFUSED(site_stamp, "2015-06-31T23:59:60Z", CULLPETHI_DATE);
     REFUSED(site_stamp, "1970-01-01T00:00:01+", CULLPETHI_TAIL);
+    REFUSED(site_stamp, "1970-01-01T00:00:01+00:00", CULLPETHI_SITE_STAMP);
+    REFUSED(site_stamp, "1970-01-01T00:00:01+00:60", CULLPETHI_OFFSET);
 }
 
 static void columns(void) {
@@ -179,6 +187,8 @@ static void columns(void) {
     IS64(parse_timestamp_millisecond, "1969-12-31T23:59:59.0005", -999);
     REFUSED(parse_timestamp_millisecond, "9999-12-31", CULLPETHI_RANGE);
     IS64(parse_timestamp_second, " 1970-01-01T00:00:01\n", 1);
+    IS64(parse_timestamp_second, "\t2020-01-01T00:00:00+01 ", 1577833200);
+    REFUSED(parse_timestamp_second, "2020-01-01T00:00:00+24 ", CULLPETHI_OFFSET);
     REFUSED(parse_timestamp_second, " 1970-01-01T", CULLPETHI_TIME);
     IS64(parse_time64_nanosecond, "23:59:60", 86400000000000);
     IS64(parse_time64_nanosecond, "1234", 1234);
@@ -188,6 +198,8 @@ static void columns(void) {
     REFUSED(parse_time64_microsecond, "\xED\xA0\x80", CULLPETHI_NOT_UTF8);
     IS64(parse_date64, "2020-1-1xy", 1577836800000);
     IS64(parse_date64, "1969-12-31T23:59:59.0005", -1000);
+    IS64(parse_date64, "9999-12-31T23:59:59.999-23:59", 253402387139999);
+    REFUSED(parse_date64, "1970-01-01T00:00:00+00:60", CULLPETHI_OFFSET);
     REFUSED(parse_date64, " 1970-01-01", CULLPETHI_DATE);
     IS32(parse_time32_millisecond, "00:00:00.9999", 999);
     IS32(parse_time32_millisecond, "2147483647", INT32_MAX);
@@ -197,6 +209,8 @@ static void columns(void) {
     REFUSED(parse_time32_second, "x", CULLPETHI_TIME_OF_DAY);
     IS32(parse_date32, " 1970-1-2 ", 1);
     IS32(parse_date32, "1969-12-31", -1);
+    IS32(parse_date32, "0000-01-01T00:00:00+00:01", -719529);
+    REFUSED(parse_date32, "1970-01-01T00:00:00-2400", CULLPETHI_OFFSET);
     REFUSED(parse_date32, "+2147483647-01-01", CULLPETHI_RANGE);
     REFUSED(parse_date32, "+2147483648-01-01", CULLPETHI_DATE);
 }

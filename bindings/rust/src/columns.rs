@@ -139,7 +139,7 @@ column! {
 }
 
 column! {
-    /// Reads a date or a stamp, as given or else trimmed, and gives the days from 1970-01-01 to its day.
+    /// Reads a date or a stamp, as given or else trimmed, and gives the days from 1970-01-01 to its day, of a stamp to its day in UTC.
     ///
     /// A date is `yyyy-mm-dd`, `yyyy-m-d`, `yyyymmdd`, or a sign, a year of four or more digits, a month and a day. Refused with
     /// [`NotUtf8`](Refusal::NotUtf8), [`Date`](Refusal::Date), or what a stamp longer than 10 bytes is refused with;

@@ -47,17 +47,20 @@ pub use whole::{parse_column, parse_texts, Column, ColumnRefusal};
 
 use library::one;
 
-/// Reads a stamp in UTC, and gives nanoseconds since 1970-01-01.
+/// Reads a stamp, and gives nanoseconds since 1970-01-01T00:00:00Z.
 ///
 /// A stamp is `yyyy-mm-dd` alone, which is midnight, or with `T`, `t` or a space behind it and `hh:mm:ss`, `hh:mm:ss` with a point and
-/// digits, or `hhmmss`; a final `Z` or `z` may follow. Second 60 is read in any minute, and is the next minute's first. The text is not
-/// trimmed. Refused with [`NotUtf8`](Refusal::NotUtf8), [`Date`](Refusal::Date), [`Separator`](Refusal::Separator),
-/// [`Time`](Refusal::Time), [`Tail`](Refusal::Tail) or [`Range`](Refusal::Range).
+/// digits, or `hhmmss`; a final `Z` or `z` may follow, or an offset: white space or none, a sign, and `hh:mm`, `hhmm` or `hh`, of up to
+/// `23:59`. Without colons in the time white space stands before an offset. Local time less the offset is UTC; without one it is UTC. Second 60
+/// is read in any minute, and is the next minute's first. The text is not trimmed. Refused with [`NotUtf8`](Refusal::NotUtf8),
+/// [`Date`](Refusal::Date), [`Separator`](Refusal::Separator), [`Time`](Refusal::Time), [`Tail`](Refusal::Tail),
+/// [`Offset`](Refusal::Offset) or [`Range`](Refusal::Range).
 ///
 /// ```
 /// # use cullpethi::*;
 /// assert_eq!(string_to_timestamp_nanos("1997-01-31T09:26:56.123Z"), Ok(854_702_816_123_000_000));
 /// assert_eq!(string_to_timestamp_nanos("1997-01-31 09:26:56"), Ok(854_702_816_000_000_000));
+/// assert_eq!(string_to_timestamp_nanos("1997-01-31T09:26:56+01:00"), Ok(854_699_216_000_000_000));
 /// assert_eq!(string_to_timestamp_nanos("1997-02-31"), Err(Refusal::Date));
 /// ```
 pub fn string_to_timestamp_nanos<T: Text + ?Sized>(text: &T) -> Result<i64, Refusal> {

@@ -11,7 +11,8 @@ use std::fmt;
 /// assert_eq!(string_to_timestamp_nanos("1970-02-30"), Err(Refusal::Date));
 /// assert_eq!(string_to_timestamp_nanos("1970-01-01_00:00:00"), Err(Refusal::Separator));
 /// assert_eq!(string_to_timestamp_nanos("1970-01-01T24:00:00"), Err(Refusal::Time));
-/// assert_eq!(string_to_timestamp_nanos("1970-01-01T00:00:00+01:00"), Err(Refusal::Tail));
+/// assert_eq!(string_to_timestamp_nanos("1970-01-01T00:00:00+1:00"), Err(Refusal::Tail));
+/// assert_eq!(string_to_timestamp_nanos("1970-01-01T00:00:00+24:00"), Err(Refusal::Offset));
 /// assert_eq!(string_to_timestamp_nanos("2263-01-01"), Err(Refusal::Range));
 /// assert_eq!(string_to_time_nanoseconds("24:00"), Err(Refusal::TimeOfDay));
 /// assert_eq!(parse_interval_month_day_nano("1  day"), Err(Refusal::Interval { place: 2 }));
@@ -32,8 +33,10 @@ pub enum Refusal {
     Separator,
     /// No time part of a stamp, or a field of it is out of range: `1970-01-01T24:00:00`.
     Time,
-    /// Bytes remain after the time that are not a single final z or Z: `1970-01-01T00:00:00+01:00`.
+    /// Bytes remain after the time that are neither a single final z or Z nor of an offset's shape: `1970-01-01T00:00:00+1:00`.
     Tail,
+    /// The hours or minutes of an offset are out of range: `1970-01-01T00:00:00+24:00`.
+    Offset,
     /// The nanoseconds do not fit 64 signed bits, or the day number does not fit 32: `2263-01-01`.
     Range,
     /// A time-of-day text is neither a time nor, for a time column, an integer of its width: `24:00`.
@@ -68,7 +71,7 @@ pub enum Refusal {
 }
 
 impl Refusal {
-    /// The refusal's number, from 1 to 14: what the C interface returns.
+    /// The refusal's number, from 1 to 15: what the C interface returns.
     ///
     /// ```
     /// assert_eq!(cullpethi::Refusal::Tail.number(), 5);
@@ -80,6 +83,7 @@ impl Refusal {
             Refusal::Separator => 3,
             Refusal::Time => 4,
             Refusal::Tail => 5,
+            Refusal::Offset => 15,
             Refusal::Range => 6,
             Refusal::TimeOfDay => 7,
             Refusal::Interval { .. } => 8,
@@ -118,6 +122,7 @@ impl Refusal {
             3 => Refusal::Separator,
             4 => Refusal::Time,
             5 => Refusal::Tail,
+            15 => Refusal::Offset,
             6 => Refusal::Range,
             7 => Refusal::TimeOfDay,
             12 => Refusal::SiteStamp,
@@ -157,7 +162,8 @@ impl fmt::Display for Refusal {
             Refusal::Date => "no date: no shape of one, no day of the calendar, or a stamp of fewer than 10 bytes",
             Refusal::Separator => "byte 10 of a longer stamp is not T, t or a space",
             Refusal::Time => "no time part of a stamp, or a field of it is out of range",
-            Refusal::Tail => "bytes remain after the time that are not a single final z or Z",
+            Refusal::Tail => "bytes remain after the time that are neither a single final z or Z nor of an offset's shape",
+            Refusal::Offset => "the hours or minutes of an offset are out of range",
             Refusal::Range => "the nanoseconds do not fit 64 signed bits, or the day number does not fit 32",
             Refusal::TimeOfDay => "a time-of-day text is neither a time nor, for a time column, an integer of its width",
             Refusal::Interval { .. } => "an interval text has no division",

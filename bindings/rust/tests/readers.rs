@@ -30,6 +30,14 @@ fn stamps() {
         Err(Refusal::Tail)
     );
     assert_eq!(
+        string_to_timestamp_nanos("1970-01-01T00:00:00+00:60"),
+        Err(Refusal::Offset)
+    );
+    assert_eq!(
+        string_to_timestamp_nanos("1970-01-01T00:00:00\u{3000}-0130"),
+        Ok(5_400_000_000_000)
+    );
+    assert_eq!(
         string_to_time_nanoseconds("23:59:60"),
         Ok(86_400_000_000_000)
     );

@@ -15,7 +15,7 @@ use borrow.Author.Tests.{lt-ltb, le-leb, lt-leb, leb-true, leb-false}
 use Rattle.date.specs.Answer.{day_named, in_days, date_days}
 use Rattle.date.proofs.Agreement as Dates
 use Rattle.date.proofs.Bounds.{short_most}
-use Rattle.date.proofs.Refusals.{stamps, before_6}
+use Rattle.date.proofs.Refusals.{stamps, not_6}
 use Rattle.date.proofs.Refusals as DateRefusals
 use Rattle.date_column.specs.Answer.{millis, date64}
 use Rattle.number.specs.Decimal.{numeral}
@@ -147,7 +147,7 @@ module _ (t : List ℕ) where
   no_moment l (accepted m) p n e = clash (sym e)
   no_moment l (refused m) p n e =
       let r = (StampRefusals.refusals t m).1 (rw p) in
-      rw (← same e) (no_stamp_beyond_ten l r (before_6 r p))
+      rw (← same e) (no_stamp_beyond_ten l r (not_6 r p))
 
   back_refused : {c : Column} → Kind c → (n : ℕ) → reader c t ≡ refused n → ReaderRefuses c t n
   back_refused (a_stamp {k = k} s) n e = no_stamp s ((StampRefusals.refusals t n).1 (still_refused k (stamp_nanos t) n (sym (stamp_reader s t) ∙ e)))

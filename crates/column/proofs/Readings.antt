@@ -1,5 +1,5 @@
--- Readings of the definitions: document 01's of stamps, dates and times of day that are not marked P, each column at least once, and each
--- refusal from 1 to 7. Assumes nothing.
+-- Readings of the definitions: document 01's of stamps, dates and times of day that are not marked P, each column at least once, each
+-- refusal from 1 to 7, and offsets. Assumes nothing.
 use mathlib.Core.Path.{refl}
 use mathlib.Core.List.{List, [], ◌∷◌}
 use Prim.Native.Nat.{ℕ}
@@ -19,6 +19,7 @@ use Rattle.white.specs.WhiteSpace.{white1, white2, white3, white_of}
 use Rattle.time.specs.Answer.{time_of_day, time_nanos}
 use Rattle.stamp_text.specs.Answer.{day_of, time_of, plain_moment}
 use Rattle.clock.specs.Clock.{nanos_of}
+use Rattle.offset.specs.Answer.{drop_white, minute_of, numoffset}
 use Rattle.column.specs.Columns.{column}
 use Rattle.column.specs.declared.Column.{Column}
 use Rattle.column.specs.declared.Column.TheVariants.{TimestampNanosecond, TimestampMicrosecond, TimestampMillisecond, TimestampSecond, Time64Nanosecond, Time64Microsecond, Time32Millisecond, Time32Second, Date32, Date64}
@@ -61,9 +62,13 @@ rows =
     refuses TimestampSecond "2023-02-29" 2 ∷
     refuses TimestampSecond "2023-02-28_00:00:00" 3 ∷
     refuses TimestampSecond "1997-01-31 092656+04:00" 4 ∷
-    refuses TimestampSecond "2023-02-28T00:00:00+00:00" 5 ∷
+    refuses TimestampSecond "2023-02-28T00:00:00 Z" 5 ∷
+    refuses TimestampSecond "2023-02-28T00:00:00+24:00" 15 ∷
+    -- an offset
+    reads TimestampSecond "1970-01-01 010000 +01" (pos 0) ∷
+    reads Date32 "1970-01-01T23:59:60-00:01" (pos 1) ∷
     []
 
 pub readings : Readings rows
-unfolding digits value run blanks trim_start trim_end well_formed white1 white2 white3 white_of span before day_of time_of plain_moment nanos_of time_of_day to_hyphen extended_ymd short_day plain_day no_digits
+unfolding digits value run blanks trim_start trim_end well_formed white1 white2 white3 white_of span before day_of time_of plain_moment nanos_of time_of_day to_hyphen extended_ymd short_day plain_day no_digits drop_white minute_of numoffset
 readings = refl

@@ -47,7 +47,7 @@ pub data ReaderRefuses : Column → List ℕ → ℕ → Type 0 where
   no_date : {t : List ℕ} {n : ℕ} → DateRefuses t n → ReaderRefuses Date32 t n
   no_date_up_to_ten : {t : List ℕ} {n : ℕ} → length t ≤ 10 → DateRefuses t n → ReaderRefuses Date64 t n
   -- a stamp's refusals but 6: the nanoseconds need not fit
-  no_stamp_beyond_ten : {t : List ℕ} {n : ℕ} → 10 < length t → StampRefuses t n → n < 6 → ReaderRefuses Date64 t n
+  no_stamp_beyond_ten : {t : List ℕ} {n : ℕ} → 10 < length t → StampRefuses t n → (n ≡ 6 → ⊥) → ReaderRefuses Date64 t n
 
 -- what a column reads in the text as given: its reader's value; failing a time, a time column tries the text as a decimal integer with
 -- optional sign, taken undivided, with no range but its width

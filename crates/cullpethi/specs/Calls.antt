@@ -1,5 +1,5 @@
 -- The delivered calls and the answer that the contract of each cites, so that one statement speaks of all. Assumes nothing.
-use Rattle.std.specs.Prelude.{List, ℕ, ◌≤◌, ℤ}
+use Rattle.std.specs.Prelude.{◌≡◌, Bool, true, ◌||◌, List, ℕ, eqb, leb, ℤ}
 use Rattle.column.specs.Columns.{column}
 use Rattle.column.specs.declared.Column.{Column}
 use Rattle.amount.specs.Grammar.{precision}
@@ -48,6 +48,9 @@ answer (interval_month_day_nano_config unit) t = in_unit (unit_numbered unit) t
 pub data Accepts {A : Type 0} : Outcome A → Type 0 where
   accepts : (v : A) → Accepts (accepted v)
 
--- a number of document 01's list, "Refusals, in checking order", of which the last is 12
+-- a number of the list of a text's refusals: document 01's, "Refusals, in checking order", of which the last is 12, and document 02's 15 (No. 6)
+abbrev pub of_text : ℕ → Bool
+of_text n = leb n 12 || eqb n 15
+
 pub data OnList : ℕ → Type 0 where
-  on_list : (why : Refusal) → number_of why ≤ 12 → OnList (number_of why)
+  on_list : (why : Refusal) → of_text (number_of why) ≡ true → OnList (number_of why)

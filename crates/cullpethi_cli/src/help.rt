@@ -99,7 +99,7 @@ Any other word that begins with a minus is a text or a number: -5, '-.5 days'. A
 fn stamps(out: &mut Out) {
     out.put(
         b"
-Stamps in UTC, counted from 1970-01-01:
+Stamps, counted from 1970-01-01T00:00:00Z:
   string_to_timestamp_nanos   in nanoseconds
   site_stamp                  in nanoseconds, with ', leap second' behind them where the second is 60
   timestamp_nanosecond timestamp_microsecond timestamp_millisecond timestamp_second
@@ -108,8 +108,9 @@ Stamps in UTC, counted from 1970-01-01:
 ",
     );
     out.put(
-        b"    yyyy-mm-dd, or with T, t or a space behind it hh:mm:ss, hh:mm:ss.f or hhmmss, and then z, Z or nothing.
+        b"    yyyy-mm-dd, or with T, t or a space behind it hh:mm:ss, hh:mm:ss.f or hhmmss, and then z, Z, nothing or an offset.
     f is a digit or more, of which nine count. Hours 0 to 23, minutes 0 to 59, seconds 0 to 60.
+    Offset: white space or none (behind hhmmss, some), + or -, and hh:mm, hhmm or hh, of up to 23:59. UTC is local time less the offset.
     site_stamp: yyyy-mm-ddThh:mm:ssZ alone, or with .f of 1 to 9 digits, and second 60 only as 23:59:60
         on 30 June or 31 December.
 ",
@@ -210,6 +211,7 @@ begins, and a text that was an argument, or whose answer goes to a terminal, is 
         Refusal::Separator,
         Refusal::Time,
         Refusal::Tail,
+        Refusal::Offset,
         Refusal::Range,
         Refusal::TimeOfDay,
         Refusal::Interval,

@@ -194,7 +194,10 @@ fn meaning(why: Refusal) -> &'static [u8] {
         }
         Refusal::Separator => b"byte 10 of a longer stamp is not T, t or a space",
         Refusal::Time => b"no time part of a stamp, or a field of it is out of range",
-        Refusal::Tail => b"bytes remain after the time that are not a single final z or Z",
+        Refusal::Tail => {
+            b"bytes remain after the time that are neither a single final z or Z nor of an offset's shape"
+        }
+        Refusal::Offset => b"the hours or minutes of an offset are out of range",
         Refusal::Range => {
             b"the nanoseconds do not fit 64 signed bits, or the day number does not fit 32"
         }

@@ -6,7 +6,7 @@ use mathlib.Core.List.{List, [], ◌∷◌}
 use Rattle.std.specs.Prelude.{Option, None, Some}
 use Prim.Native.Nat.{ℕ, ◌≤◌, ◌<◌}
 use native.Mathlib.Omega.{arith}
-use lib.Dec.{eqb, leb, lit<}
+use lib.Dec.{eqb, leb}
 use lib.ListN.{length, get_or}
 use lib.IntN.{ℤ}
 use borrow.Author.Tests.{eqb-true, leb-true, leb-false, le-leb, lt-leb}
@@ -18,7 +18,7 @@ use Rattle.utf8.proofs.Utf8Agrees as utf
 use Rattle.refusal.proofs.Outcomes.{clash, same}
 use Rattle.stamp_text.specs.Answer.{in_nanos, datetime, stamp_nanos}
 use Rattle.datetime.specs.Moment.{Moment, instant}
-use Rattle.stamp_text.specs.Meaning.{Refuses as StampRefuses, not_utf8 as st_not_utf8, no_date as st_no_date, no_separator, no_time, more_after, out_of_range as st_out_of_range}
+use Rattle.stamp_text.specs.Meaning.{Refuses as StampRefuses, not_utf8 as st_not_utf8, no_date as st_no_date, no_separator, no_time, more_after, no_offset, out_of_range as st_out_of_range}
 use Rattle.stamp_text.proofs.Agreement as Stamps
 use Rattle.stamp_text.proofs.Refusals.{refusals as stamp_refusals}
 use Rattle.date.specs.Grammar.{plus, minus, NamesDay, DateForm, with_sign, within_ten, Refuses, not_utf8, no_date, as_stamp, out_of_range}
@@ -77,7 +77,7 @@ not_date : (t : List ℕ) → (DateForm t → ⊥) → (is_sign (get_or t 0 0) �
 not_date t f =
     (fails (is_sign (get_or t 0 0)) (sign_form t) f, leb-false (length t) 10 (fails (leb (length t) 10) (λ e. within_ten (leb-true (length t) 10 e)) f))
 
-pub stamps : (t : List ℕ) (n : ℕ) → stamp_nanos t ≡ refused n → n < 6 → datetime t ≡ refused n
+pub stamps : (t : List ℕ) (n : ℕ) → stamp_nanos t ≡ refused n → (n ≡ 6 → ⊥) → datetime t ≡ refused n
 stamps t n e l = by (datetime t) refl e
   where
     by : (o : Outcome Moment) → datetime t ≡ o → and_then o (λ m. in_nanos (instant m)) ≡ refused n → datetime t ≡ refused n
@@ -85,16 +85,17 @@ stamps t n e l = by (datetime t) refl e
     by (accepted m) p e =
         by_test (in_signed 63 (instant m))
         (λ f. clash (sym (rw f at e)))
-        (λ f. let q : refused 6 ≡ refused n = rw f at e in absurd (omega (arith, same q)))
+        (λ f. let q : refused 6 ≡ refused n = rw f at e in absurd (l (sym (same q))))
 
--- a stamp's refusals but the last are of texts that name no moment
-pub before_6 : {t : List ℕ} {n : ℕ} → StampRefuses t n → datetime t ≡ refused n → n < 6
-before_6 (st_not_utf8 h) e = lit< tt
-before_6 (st_no_date u h) e = lit< tt
-before_6 (no_separator a r b z u d s) e = lit< tt
-before_6 (no_time a r s z u d p q) e = lit< tt
-before_6 (more_after a r x s z c u d p q n) e = lit< tt
-before_6 (st_out_of_range {t} m n f) e = clash (sym e ∙ (Stamps.agrees t m).0 n)
+-- a stamp's refusals but 6 are of texts that name no moment
+pub not_6 : {t : List ℕ} {n : ℕ} → StampRefuses t n → datetime t ≡ refused n → n ≡ 6 → ⊥
+not_6 (st_not_utf8 h) e q = omega arith
+not_6 (st_no_date u h) e q = omega arith
+not_6 (no_separator a r b z u d s) e q = omega arith
+not_6 (no_time a r s z u d p l) e q = omega arith
+not_6 (more_after a r x s z c u d p l n) e q = omega arith
+not_6 (no_offset a r x s z c o u d p l n f) e q = omega arith
+not_6 (st_out_of_range {t} m n f) e q = clash (sym e ∙ (Stamps.agrees t m).0 n)
 
 -- ---- the theorem
 
@@ -120,7 +121,7 @@ module _ (t : List ℕ) where
   as_a_stamp (accepted m) p f n e = clash (sym e)
   as_a_stamp (refused k) p f n e =
       let r = (stamp_refusals t k).1 (rw p) in
-      rw (← same e) (as_stamp f r (before_6 r p))
+      rw (← same e) (as_stamp f r (not_6 r p))
 
   early : (n : ℕ) → day_named t ≡ refused n → Refuses t n
   early n e =

@@ -1,4 +1,4 @@
--- What a date reads as, computed, with the refusals 1 to 6 of document 01 in order. `Rattle.date.proofs.Agreement` joins the computation
+-- What a date reads as, computed, with the refusals 1 to 5, 15 and 6 in order. `Rattle.date.proofs.Agreement` joins the computation
 -- to the grammar. Assumes nothing.
 use Rattle.std.specs.Prelude.{Bool, cond, ◌||◌, List, ℕ, eqb, leb, length, get_or, ℤ, Option, None, Some}
 use Rattle.calendar.specs.Calendar.{civil}
@@ -28,7 +28,7 @@ abbrev pub on_day : Option ℤ → Outcome ℤ
 on_day None = refused 2
 on_day (Some z) = accepted z
 
--- the day that a text names; one of more than 10 bytes without a sign is read as a stamp, whose refusals are 2 to 5
+-- the day that a text names; one of more than 10 bytes without a sign is read as a stamp, whose refusals are 2 to 5 and 15
 unfoldable pub plain_day : List ℕ → Outcome ℤ
 plain_day t =
     cond (is_sign (get_or t 0 0)) (on_day (signed_day t))

@@ -33,7 +33,7 @@ pub data DateText : List ℕ → ℤ → ℕ → ℕ → Type 0 where
       → Numeral false m (pos n) → in_unsigned 32 (pos n) ≡ true → Numeral false d (pos k) → in_unsigned 32 (pos k) ≡ true
       → DateText (s ∷ (y ++ (0x2D ∷ (m ++ (0x2D ∷ d))))) z n k
 
--- a text and the day that it names: a date, or a stamp of more than 10 bytes, of which the day counts
+-- a text and the day that it names: a date, or a stamp of more than 10 bytes, of which the day in UTC counts
 pub data NamesDay : List ℕ → ℤ → Type 0 where
   of_date : {t : List ℕ} {y : ℤ} {m d : ℕ} (z : ℤ) → DateText t y m d → utf8 t ≡ true → civil y m d ≡ Some z → NamesDay t z
   of_stamp : {t : List ℕ} (x : Moment) → Names t x → 10 < length t → NamesDay t x.day
@@ -47,9 +47,9 @@ pub data DateForm : List ℕ → Type 0 where
   with_sign : (s : ℕ) (t : List ℕ) → Sign s → DateForm (s ∷ t)
   within_ten : {t : List ℕ} → length t ≤ 10 → DateForm t
 
--- a text and the number of its refusal, the first of document 01's list that holds; a stamp's own range, 6, is no reason here
+-- a text and the number of its refusal, the first of the list that holds; a stamp's own range, 6, is no reason here
 pub data Refuses : List ℕ → ℕ → Type 0 where
   not_utf8 : {t : List ℕ} → (Utf8 t → ⊥) → Refuses t 1
   no_date : {t : List ℕ} → Utf8 t → DateForm t → ((z : ℤ) → NamesDay t z → ⊥) → Refuses t 2
-  as_stamp : {t : List ℕ} {n : ℕ} → (DateForm t → ⊥) → StampRefuses t n → n < 6 → Refuses t n
+  as_stamp : {t : List ℕ} {n : ℕ} → (DateForm t → ⊥) → StampRefuses t n → (n ≡ 6 → ⊥) → Refuses t n
   out_of_range : {t : List ℕ} (z : ℤ) → NamesDay t z → in_signed 31 z ≡ false → Refuses t 6

@@ -3,20 +3,22 @@
 use Rattle.std.specs.Prelude.{cond, List, ℕ, Result, Ok, Err}
 use Rattle.utf8.specs.Utf8.{utf8}
 use Rattle.refusal.specs.declared.Refusal.{Refusal}
-use Rattle.refusal.specs.declared.Refusal.TheVariants.{NotUtf8, Date, Separator, Time, Tail, Range, TimeOfDay, Interval, RepeatedUnit, Overflow, Narrowed, SiteStamp, Column, Buffer}
+use Rattle.refusal.specs.declared.Refusal.TheVariants.{NotUtf8, Date, Separator, Time, Tail, Offset, Range, TimeOfDay, Interval, RepeatedUnit, Overflow, Narrowed, SiteStamp, Column, Buffer}
 
 -- a value and nothing else, or a refusal's number and nothing else
 pub data Outcome (A : Type 0) : Type 0 where
   accepted : A → Outcome A
   refused : ℕ → Outcome A
 
--- document 01's number of each refusal of a text; behind them document 02's of a whole call (13: No. 1; 14: No. 4)
+-- document 01's number of each refusal of a text, and document 02's (15: No. 6) where it is checked; behind them document 02's of a whole call
+-- (13: No. 1; 14: No. 4)
 abbrev pub number_of : Refusal → ℕ
 number_of NotUtf8 = 1
 number_of Date = 2
 number_of Separator = 3
 number_of Time = 4
 number_of Tail = 5
+number_of Offset = 15
 number_of Range = 6
 number_of TimeOfDay = 7
 number_of Interval = 8

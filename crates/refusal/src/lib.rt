@@ -15,8 +15,10 @@ pub enum Refusal {
     Separator = 3,
     // No time part of a stamp, or a field of it is out of range.
     Time = 4,
-    // Bytes remain after the time that are not a single final z or Z.
+    // Bytes remain after the time that are neither a single final z or Z nor of an offset's shape.
     Tail = 5,
+    // The hours or minutes of an offset are out of range.
+    Offset = 15,
     // The nanoseconds do not fit 64 signed bits, or the day number does not fit 32.
     Range = 6,
     // A time-of-day text is neither a time nor, for a time column, an integer of its width.

@@ -22,7 +22,7 @@ use Rattle.site.proofs.SiteAgrees.{site_test_lem, site_of}
 
 -- a text that is read and is no site stamp fails the test
 not_site : {t : List ℕ} {z : ℤ} → Reads t z → ((d : Ymd) (c : Clock) → SiteStamp t d c → ⊥) → is_site t ≡ false
-not_site {t} (reads m (names {d = d} {c = c} z s e ok) fits) h = by_test (is_site t) (λ p. absurd (h d c (site_of s p))) (λ p. p)
+not_site {t} (reads m (names {d = d} {c = c} z s e ok r u) fits) h = by_test (is_site t) (λ p. absurd (h d c (site_of s p).0)) (λ p. p)
 
 -- the plain reader's refusal is the site stamp's
 plain_refusal : (t : List ℕ) (n : ℕ) → stamp_nanos t ≡ refused n → site_marked t ≡ refused n

@@ -20,7 +20,13 @@ use Rattle.refusal.proofs.Outcomes.{clash}
 use Rattle.text.proofs.DigitLists.{two_value}
 use Rattle.text.proofs.Places.{not_sign, last_of}
 use Rattle.clock.proofs.Figures.{by_two, by_four, by_fields, two_figures, size_of, seconds_end}
-use Rattle.stamp_text.specs.Grammar.{Ymd, FullDate, full_date, PartialTime, colons, basic, capital, Ending, none_given, capital_z, small_z, Stamp, date_alone, date_time}
+use Rattle.offset.specs.declared.Offset.{Offset}
+use Rattle.offset.specs.Grammar.{utc, Numeric, Ending, none_given, capital_z, small_z, in_figures}
+use Rattle.offset.specs.Answer.{less}
+use Rattle.offset.proofs.Agreement.{front, last}
+use Rattle.offset.proofs.Shift.{agrees as in_utc_agrees, itself, less_utc}
+use Rattle.stamp_text.specs.Grammar.{Ymd, FullDate, full_date, PartialTime, colons, basic, capital, Stamp, date_alone, date_time}
+use Rattle.stamp_text.proofs.LongestTimes.{eight_bytes}
 use Rattle.number.specs.Widths.{in_signed}
 use Rattle.stamp_text.specs.Answer.{has_colons, datetime, stamp_nanos}
 use Rattle.datetime.specs.Moment.{Moment, moment, instant}
@@ -33,8 +39,9 @@ use Rattle.stamp_text.proofs.Marks as marks
 
 -- ---- a site stamp is a stamp, and passes the test
 
-is_plain : {t : List ℕ} {d : Ymd} {c : Clock} → SiteStamp t d c → Stamp t d c
-is_plain (site a h m s x f p q r u v n l) = date_time a _ (0x5A ∷ []) 0x54 p capital (colons h m s x f q r u v) capital_z
+is_plain : {t : List ℕ} {d : Ymd} {c : Clock} → SiteStamp t d c → Stamp t d c utc
+is_plain (site a h m s x f p q r u v n l) =
+    date_time a _ (0x5A ∷ []) 0x54 p capital (colons h m s x f q r u v) capital_z (λ z. absurd (eight_bytes q r u x z))
 
 -- three numbers of two digits with a byte c between, as a time has them, and a date behind its century
 record Fields (c : ℕ) (u : List ℕ) (h m s : ℕ) : Type 0 where
@@ -126,6 +133,12 @@ module _ {a h m s x f : List ℕ} {d : Ymd} (p : FullDate a d) (q : Figures 2 h)
   end_with : (z : ℕ) → get_or (a ++ (b ∷ (body ++ (z ∷ [])))) (length (a ++ (b ∷ (body ++ (z ∷ [])))) - 1) 0 ≡ z
   end_with z = last_of a ((b ∷ body) ++ (z ∷ [])) (omega arith) ∙ last_of (b ∷ body) (z ∷ []) (omega arith)
 
+  -- an offset in figures ends with a digit
+  end_of_figures : {e : List ℕ} {o : Offset} → Numeric e o → is_digit (get_or (a ++ (b ∷ (body ++ e))) (length (a ++ (b ∷ (body ++ e))) - 1) 0) ≡ true
+  end_of_figures {e} n =
+      let k : 0 < length e = omega (arith, ap length (front n).begins) in
+      rw (last_of a ((b ∷ body) ++ e) (omega arith), last_of (b ∷ body) e k) (last n)
+
 pub site_test_lem : {t : List ℕ} {d : Ymd} {c : Clock} → SiteStamp t d c → is_site t ≡ true
 unfolding is_site
 site_test_lem (site a h m s x f p q r u v n l) =
@@ -191,7 +204,7 @@ open_end {a} {s} {x} h m b p u v =
     last_of (0x3A ∷ []) (s ++ x) two))
     (seconds_end u v)
 
-site_time : {a b n : List ℕ} {d : Ymd} {c : Clock} (s : ℕ) → FullDate a d → PartialTime b c → Ending n → Passed (a ++ (s ∷ (b ++ n))) → SiteStamp (a ++ (s ∷ (b ++ n))) d c
+site_time : {a b n : List ℕ} {d : Ymd} {c : Clock} {o : Offset} (s : ℕ) → FullDate a d → PartialTime b c → Ending n o → Passed (a ++ (s ∷ (b ++ n))) → SiteStamp (a ++ (s ∷ (b ++ n))) d c × (o ≡ utc)
 site_time {a} {d = d} k p (colons h m s x f q r u v) none_given y =
     both_ways (eqb (get_or t (length t - 1) 0) 0x5A) (not_sign (get_or t (length t - 1) 0) 0x5A (rw append-nil (open_end h m k p u v)) (inr (omega arith))) y.last
   where
@@ -199,22 +212,29 @@ site_time {a} {d = d} k p (colons h m s x f q r u v) none_given y =
     t = a ++ (k ∷ ((h ++ (0x3A ∷ (m ++ (0x3A ∷ (s ++ x))))) ++ []))
 site_time {a} {d = d} k p (colons h m s x f q r u v) small_z y =
     absurd (false≢true (rw (end_with p q r u v k 0x7A) at y.last))
+site_time {a} {n = n} {d = d} k p (colons h m s x f q r u v) (in_figures e) y =
+    both_ways (eqb (get_or t (length t - 1) 0) 0x5A) (not_sign (get_or t (length t - 1) 0) 0x5A (end_of_figures p q r u v k e) (inr (omega arith))) y.last
+  where
+    t : List ℕ
+    t = a ++ (k ∷ ((h ++ (0x3A ∷ (m ++ (0x3A ∷ (s ++ x))))) ++ n))
 site_time {a} {d = d} k p (colons h m s x f q r u v) capital_z y =
     let w = tests p q r u v k (0x5A ∷ []) in
-    let e : k ≡ 0x54 = eqb-true k 0x54 (rw (seam p k ((h ++ (0x3A ∷ (m ++ (0x3A ∷ (s ++ x))))) ++ (0x5A ∷ []))).0 at y.separator) in
-    rw e (site a h m s x f p q r u v
-    (omega (arith, y.short, size p q r u v k (0x5A ∷ []), secfrac_size v))
-    (leap_fact (value 0 h) (value 0 m) (value 0 s) p _ (rw (w.first, w.second, w.third) at y.leap)))
+    let e : k ≡ 0x54 = eqb-true k 0x54 (rw (seam p k ((h ++ (0x3A ∷ (m ++ (0x3A ∷ (s ++ x))))) ++ (0x5A ∷ []))).0 at y.separator) in (
+      rw e (site a h m s x f p q r u v
+          (omega (arith, y.short, size p q r u v k (0x5A ∷ []), secfrac_size v))
+          (leap_fact (value 0 h) (value 0 m) (value 0 s) p _ (rw (w.first, w.second, w.third) at y.leap))),
+      refl,
+    )
 site_time {a} {n = n} k p (basic h m s q r u) e y =
     both_ways (has_colons (drop 11 (a ++ (k ∷ ((h ++ (m ++ s)) ++ n))))) (rw ((seam p k ((h ++ (m ++ s)) ++ n)).1, whole) (no_colons h m (s ++ n) q r)) y.colon
   where
     whole : (h ++ (m ++ s)) ++ n ≡ h ++ (m ++ (s ++ n))
     whole = simp append_assoc
 
-pub site_of : {t : List ℕ} {d : Ymd} {c : Clock} → Stamp t d c → is_site t ≡ true → SiteStamp t d c
+pub site_of : {t : List ℕ} {d : Ymd} {c : Clock} {o : Offset} → Stamp t d c o → is_site t ≡ true → SiteStamp t d c × (o ≡ utc)
 site_of (date_alone {t} f) e =
     absurd (false≢true (rw (get_or-eq_default t 0 {n = 10} (omega (arith, date_size f))) at (passed t e).separator))
-site_of (date_time a b n s f g p q) e = site_time s f p q (passed (a ++ (s ∷ (b ++ n))) e)
+site_of (date_time a b n s f g p q w) e = site_time s f p q (passed (a ++ (s ∷ (b ++ n))) e)
 
 -- ---- the theorems
 
@@ -248,10 +268,18 @@ agrees t x = (into, λ e. let y = accepted_from t x e in rw (← y.told) (from y
     into : {x : Marked} → SiteReads t x → site_marked t ≡ accepted x
     into (site_reads {d = d} {c = c} z s e ok fits) =
         let n = held_nanos c in
-        rw ((stamps.agrees t (moment z (held_clock c))).0 (names z (is_plain s) e ok), n, fits, site_test_lem s)
+        let b = stamps.hour_minute c ok in
+        let x : Moment = moment z (held_clock c) in
+        rw ((stamps.agrees t x).0 (names z (is_plain s) e ok refl (itself x b.0 b.1)), n, fits, site_test_lem s)
 
     from : {m : Moment} → is_site t ≡ true → in_signed 63 (instant m) ≡ true → Names t m → SiteReads t (marked (instant m) m.time.leap)
-    from s fits (names {c = c} z p e ok) = let n = held_nanos c in rw n (site_reads z (site_of p s) e ok (rw n at fits))
+    from {m} s fits (names {c = c} {o = o} z p e ok r u) =
+        let k = site_of p s in
+        let b = stamps.hour_minute c ok in
+        let x : Moment = moment z (held_clock c) in
+        let w : x ≡ m = sym (less_utc x b.0 b.1) ∙ ap (less x) (sym k.1) ∙ (in_utc_agrees x o m r).0 u in
+        let n = held_nanos c in
+        rw (← w, n) (site_reads z k.0 e ok (rw (← w, n) at fits))
 
 -- its value is the plain reader's
 pub plain_value : (t : List ℕ) (x : Marked) → site_marked t ≡ accepted x → stamp_nanos t ≡ accepted x.nanos

@@ -4,3 +4,4 @@ pub mod Agreement
 pub mod Refusals
 pub mod Bounds
 pub mod Marks
+pub mod Offsets

@@ -1,17 +1,17 @@
 -- The longest time that a text begins with: the relation has what the computation finds, and no other. Assumes nothing.
-use mathlib.Core.Path.{◌≡◌, refl, sym, ap, subst}
+use mathlib.Core.Path.{◌≡◌, refl, sym, ap, ◌∙◌, subst}
 use mathlib.Core.Bool.{true, false, not}
-use mathlib.Core.Logic.{inr}
+use mathlib.Core.Logic.{inr, ⊎_elim}
 use mathlib.Core.List.{List, [], ◌∷◌, ◌++◌, append_assoc, nil≢cons}
 use Rattle.std.specs.Prelude.{cond, Option, None, Some}
 use Prim.Native.Nat.{ℕ, suc}
 use native.Mathlib.Omega.{arith}
 use lib.Dec.{eqb}
-use lib.ListN.{length, get_or, take, drop, take-append-drop}
+use lib.ListN.{length, get_or, take, drop, length-append, take-append-drop}
 use lib.Seq.{take-append_seam, drop-append_seam, get_or-drop}
 use borrow.Author.Tests.{ne_eqb, eqb-true, eqb-false, not-true}
 use Rattle.text.specs.Digits.{is_digit, digits, value, run, two_digits, two_at}
-use Rattle.text.proofs.Bools.{and_left, by_test, fails}
+use Rattle.text.proofs.Bools.{and_left, by_test, fails, within_under, within_over}
 use Rattle.text.proofs.DigitLists.{all_digits, two_value}
 use Rattle.text.proofs.Logic.{both, none_some}
 use Rattle.text.proofs.Places.{inside, not_sign, six, eight}
@@ -19,8 +19,11 @@ use Rattle.text.proofs.Runs.{run_all, run_digits}
 use Rattle.text.proofs.TwoDigits.{all_five}
 use Rattle.clock.specs.Clock.{Clock, clock, in_range, nanos_of, held, held_clock}
 use Rattle.clock.specs.Grammar.{Figures, no_fraction, fraction, no_digits}
-use Rattle.clock.proofs.Figures.{by_fields, two_figures}
-use Rattle.stamp_text.specs.Grammar.{PartialTime, colons, basic, Ending, none_given, capital_z, small_z}
+use Rattle.clock.proofs.Figures.{by_fields, two_figures, size_of}
+use Rattle.offset.specs.declared.Offset.{Offset}
+use Rattle.offset.specs.Grammar.{Ending, none_given, capital_z, small_z, in_figures}
+use Rattle.offset.proofs.Agreement.{front}
+use Rattle.stamp_text.specs.Grammar.{PartialTime, colons, basic, Apart}
 use Rattle.stamp_text.specs.Answer.{has_colons, is_basic, Timed, timed_at, timed, with_fraction, after_seconds, time_of}
 use Rattle.stamp_text.specs.Meaning.{LongestTime, whole, parted, compact}
 
@@ -235,26 +238,41 @@ time_sound t x e =
 
 -- ---- the longest time and the time of the grammar
 
+-- hhmmss is six bytes, and a time with colons is longer
+pub six_bytes : {h m s : List ℕ} → Figures 2 h → Figures 2 m → Figures 2 s → length (h ++ (m ++ s)) ≡ 6
+six_bytes {h} {m} {s} p q u = omega (arith, length-append h (m ++ s), length-append m s, size_of p, size_of q, size_of u)
+
+pub eight_bytes : {h m s : List ℕ} → Figures 2 h → Figures 2 m → Figures 2 s → (x : List ℕ) → length (h ++ (0x3A ∷ (m ++ (0x3A ∷ (s ++ x))))) ≡ 6 → ⊥
+eight_bytes {h} {m} {s} p q u x z =
+    omega (arith, length-append h (0x3A ∷ (m ++ (0x3A ∷ (s ++ x)))), length-append m (0x3A ∷ (s ++ x)), length-append s x, size_of p, size_of q, size_of u)
+
 -- what may end a stamp does not go on with its time
-no_point_ends : {e : List ℕ} → Ending e → (q : List ℕ) → e ≡ 0x2E ∷ q → ⊥
+no_point_ends : {e : List ℕ} {o : Offset} → Ending e o → (q : List ℕ) → e ≡ 0x2E ∷ q → ⊥
 no_point_ends none_given q z = nil≢cons z
 no_point_ends capital_z q z = let w : ◌≡◌ {A = ℕ} 0x5A 0x2E = first z in omega arith
 no_point_ends small_z q z = let w : ◌≡◌ {A = ℕ} 0x7A 0x2E = first z in omega arith
+no_point_ends (in_figures n) q z =
+    let f = front n in
+    let w : f.first ≡ 0x2E = first (sym f.begins ∙ z) in
+    ⊎_elim (λ l. omega arith) (λ l. omega arith) f.other
 
-no_digit_ends : {e : List ℕ} → Ending e → (no_digits (take 1 e) ≡ true) × (no_digits (take 2 e) ≡ true)
+no_digit_ends : {e : List ℕ} {o : Offset} → Ending e o → no_digits (take 1 e) ≡ true
 unfolding no_digits
-no_digit_ends none_given = (refl, refl)
-no_digit_ends capital_z = (refl, refl)
-no_digit_ends small_z = (refl, refl)
+no_digit_ends none_given = refl
+no_digit_ends capital_z = refl
+no_digit_ends small_z = refl
+no_digit_ends (in_figures n) =
+    let f = front n in
+    rw (f.begins, ⊎_elim (λ l. within_under 0x30 f.first 0x39 (omega arith)) (λ l. within_over 0x30 f.first 0x39 l) f.other)
 
 -- a time of the grammar before an ending is computed, whatever its fields
-pub before_ending : {b e : List ℕ} {c : Clock} → PartialTime b c → Ending e → time_of (b ++ e) ≡ if_ok c e
-before_ending {e = e} (colons h m s x f p q u no_fraction) n =
+pub before_ending : {b e : List ℕ} {c : Clock} {o : Offset} → PartialTime b c → Ending e o → Apart b e → time_of (b ++ e) ≡ if_ok c e
+before_ending {e = e} (colons h m s x f p q u no_fraction) n a =
     subst (λ (t : List ℕ). time_of t ≡ if_ok (clock (value 0 h) (value 0 m) (value 0 s) []) e) (simp (append_assoc)) (whole_lem p q u e (no_point_ends n))
-before_ending {e = e} (colons h m s x y p q u (fraction {b} {f} v w)) n =
-    subst (λ (t : List ℕ). time_of t ≡ if_ok (clock (value 0 h) (value 0 m) (value 0 s) (b ∷ f)) e) (simp (append_assoc)) (parted_lem p q u b f e v w (no_digit_ends n).0)
-before_ending {e = e} (basic h m s p q u) n =
-    subst (λ (t : List ℕ). time_of t ≡ if_ok (clock (value 0 h) (value 0 m) (value 0 s) []) e) (simp (append_assoc)) (compact_lem p q u e (no_digit_ends n).1)
+before_ending {e = e} (colons h m s x y p q u (fraction {b} {f} v w)) n a =
+    subst (λ (t : List ℕ). time_of t ≡ if_ok (clock (value 0 h) (value 0 m) (value 0 s) (b ∷ f)) e) (simp (append_assoc)) (parted_lem p q u b f e v w (no_digit_ends n))
+before_ending {e = e} (basic h m s p q u) n a =
+    subst (λ (t : List ℕ). time_of t ≡ if_ok (clock (value 0 h) (value 0 m) (value 0 s) []) e) (simp (append_assoc)) (compact_lem p q u e (a (six_bytes p q u)))
 
 -- a longest time is a time of the grammar, in range, and what follows it
 pub record Parted (t : List ℕ) (c : Clock) (r : List ℕ) : Type 0 where
@@ -262,11 +280,12 @@ pub record Parted (t : List ℕ) (c : Clock) (r : List ℕ) : Type 0 where
   pub time : PartialTime bytes c
   pub text : t ≡ bytes ++ r
   pub ok : Ok c
+  pub apart : Apart bytes r
 
 pub of_grammar : {t r : List ℕ} {c : Clock} → LongestTime t c r → Parted t c r
 of_grammar (whole h m s r p q u ok n) =
-    record { bytes = _; time = colons h m s [] [] p q u no_fraction; text = simp append_assoc; ok = ok }
+    record { bytes = _; time = colons h m s [] [] p q u no_fraction; text = simp append_assoc; ok = ok; apart = (λ z. absurd (eight_bytes p q u [] z)) }
 of_grammar (parted h m s k f r p q u v w ok n) =
-    record { bytes = _; time = colons h m s (0x2E ∷ k ∷ f) (k ∷ f) p q u (fraction v w); text = simp append_assoc; ok = ok }
+    record { bytes = _; time = colons h m s (0x2E ∷ k ∷ f) (k ∷ f) p q u (fraction v w); text = simp append_assoc; ok = ok; apart = (λ z. absurd (eight_bytes p q u (0x2E ∷ k ∷ f) z)) }
 of_grammar (compact h m s r p q u ok n) =
-    record { bytes = _; time = basic h m s p q u; text = simp append_assoc; ok = ok }
+    record { bytes = _; time = basic h m s p q u; text = simp append_assoc; ok = ok; apart = (λ z. n) }

@@ -1,4 +1,4 @@
--- What a stamp reads as, computed, with the refusals 1 to 6 of document 01 in order. `Rattle.stamp_text.proofs.Agreement` joins the
+-- What a stamp reads as, computed, with the refusals 1 to 5, 15 and 6 in order. `Rattle.stamp_text.proofs.Agreement` joins the
 -- computation to the grammar. Assumes nothing.
 use Rattle.std.specs.Prelude.{Bool, true, false, cond, not, ◌&&◌, ◌||◌, List, [], ◌∷◌, ℕ, ◌+◌, ◌*◌, eqb, length, get_or, take, drop, ℤ, pos, Option, None, Some}
 use Rattle.calendar.specs.Calendar.{civil}
@@ -8,6 +8,9 @@ use Rattle.text.specs.Digits.{is_digit, two_digits, two_at, run}
 use Rattle.clock.specs.Clock.{in_range, nanos_of, held}
 use Rattle.clock.specs.declared.NaiveTime.{NaiveTime}
 use Rattle.datetime.specs.Moment.{Moment, moment, instant}
+use Rattle.offset.specs.declared.Offset.{Offset}
+use Rattle.offset.specs.Utc.{in_range as offset_in_range}
+use Rattle.offset.specs.Answer.{offset_of, less}
 
 -- the text begins with yyyy-mm-dd
 abbrev pub is_date : List ℕ → Bool
@@ -67,28 +70,32 @@ is_ending (b ∷ c ∷ t) = false
 abbrev pub is_separator : ℕ → Bool
 is_separator b = eqb b 0x54 || (eqb b 0x74 || eqb b 0x20)
 
--- 5: bytes remain after the time that are not a single final z or Z
-abbrev pub at_end : ℤ → Timed → Outcome Moment
-at_end z x = cond (is_ending x.tail) (accepted (moment z x.time)) (refused 5)
+-- 5: bytes remain after the time that are neither a single final z or Z nor an offset; 15: an offset's hours or minutes are out of range
+abbrev pub on_offset : Moment → Option Offset → Outcome Moment
+on_offset x None = refused 5
+on_offset x (Some o) = cond (offset_in_range o) (accepted (less x o)) (refused 15)
 
--- 4: the bytes from 11 on are no time
-abbrev pub on_time : ℤ → Option Timed → Outcome Moment
-on_time z None = refused 4
-on_time z (Some x) = at_end z x
+abbrev pub at_end : ℤ → Timed → Outcome Moment
+at_end z x = cond (is_ending x.tail) (accepted (moment z x.time)) (on_offset (moment z x.time) (offset_of x.tail))
+
+-- 4: the bytes from 11 on are no time. Here and below `end` tells what comes of the time and the bytes after it
+abbrev pub on_time : (ℤ → Timed → Outcome Moment) → ℤ → Option Timed → Outcome Moment
+on_time end z None = refused 4
+on_time end z (Some x) = end z x
 
 -- 3: byte 10 is no separator; a text of 10 bytes means midnight
-abbrev pub after_date : List ℕ → ℤ → Outcome Moment
-after_date t z =
+abbrev pub after_date : (ℤ → Timed → Outcome Moment) → List ℕ → ℤ → Outcome Moment
+after_date end t z =
     cond (eqb (length t) 10) (accepted (moment z (held 0 0 0 0)))
-    (cond (is_separator (get_or t 10 0)) (on_time z (time_of (drop 11 t))) (refused 3))
+    (cond (is_separator (get_or t 10 0)) (on_time end z (time_of (drop 11 t))) (refused 3))
 
 -- 2: the text begins with no date of the calendar
-abbrev pub on_date : List ℕ → Option ℤ → Outcome Moment
-on_date t None = refused 2
-on_date t (Some z) = after_date t z
+abbrev pub on_date : (ℤ → Timed → Outcome Moment) → List ℕ → Option ℤ → Outcome Moment
+on_date end t None = refused 2
+on_date end t (Some z) = after_date end t z
 
 unfoldable pub plain_moment : List ℕ → Outcome Moment
-plain_moment t = on_date t (day_of t)
+plain_moment t = on_date at_end t (day_of t)
 
 -- the moment that a stamp names; 1: the bytes are no UTF-8
 abbrev pub datetime : List ℕ → Outcome Moment

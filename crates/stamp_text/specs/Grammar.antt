@@ -1,10 +1,12 @@
--- The texts of stamps, as relations: RFC 3339, section 5.6, as document 01 ("Dates and stamps") narrows and widens it. There is no
--- offset but z or Z, or none at all; a date may stand alone; the separator may be a space; the time may have no colons, and then no
--- fraction. Assumes nothing.
-use Rattle.std.specs.Prelude.{List, [], ◌∷◌, ◌++◌, ℕ}
+-- The texts of stamps, as relations: RFC 3339, section 5.6, as document 01 ("Dates and stamps") and document 02, No. 6, narrow and widen it.
+-- The offset is of `Rattle.offset.specs.Grammar`; a date may stand alone; the separator may be a space; the time may have no colons, and
+-- then no fraction. Assumes nothing.
+use Rattle.std.specs.Prelude.{◌≡◌, true, List, [], ◌∷◌, ◌++◌, ℕ, length, take}
 use Rattle.text.specs.Digits.{value}
 use Rattle.clock.specs.Clock.{Clock, clock}
-use Rattle.clock.specs.Grammar.{Figures, Secfrac}
+use Rattle.clock.specs.Grammar.{Figures, Secfrac, no_digits}
+use Rattle.offset.specs.declared.Offset.{Offset}
+use Rattle.offset.specs.Grammar.{utc, Ending}
 
 -- a date as a text writes it
 pub record Ymd : Type 0 where
@@ -30,14 +32,12 @@ pub data Separator : ℕ → Type 0 where
   small : Separator 0x74
   space : Separator 0x20
 
--- time-offset: "Z" in either case; document 01: or none, which means UTC too
-pub data Ending : List ℕ → Type 0 where
-  none_given : Ending []
-  capital_z : Ending (0x5A ∷ [])
-  small_z : Ending (0x7A ∷ [])
+-- document 01: after hhmmss, which is 6 bytes, the two following bytes are no digits, so that white space stands before its numeric offset
+abbrev pub Apart : List ℕ → List ℕ → Type 0
+Apart b e = length b ≡ 6 → no_digits (take 2 e) ≡ true
 
--- a text and the date and the time that it writes; a date alone means midnight
-pub data Stamp : List ℕ → Ymd → Clock → Type 0 where
-  date_alone : {t : List ℕ} {d : Ymd} → FullDate t d → Stamp t d (clock 0 0 0 [])
-  date_time : (a b e : List ℕ) (s : ℕ) {d : Ymd} {c : Clock} → FullDate a d → Separator s → PartialTime b c → Ending e
-      → Stamp (a ++ (s ∷ (b ++ e))) d c
+-- a text and the date, the time and the offset that it writes; a date alone means midnight, in UTC
+pub data Stamp : List ℕ → Ymd → Clock → Offset → Type 0 where
+  date_alone : {t : List ℕ} {d : Ymd} → FullDate t d → Stamp t d (clock 0 0 0 []) utc
+  date_time : (a b e : List ℕ) (s : ℕ) {d : Ymd} {c : Clock} {o : Offset} → FullDate a d → Separator s → PartialTime b c → Ending e o → Apart b e
+      → Stamp (a ++ (s ∷ (b ++ e))) d c o
