@@ -92,7 +92,7 @@ pub fn by_library(column: u8, bytes: &[u8], ends: &[u32], cells: usize) -> Optio
         }
         (n, index) if held.iter().all(|&c| c == CELL) => match (n, index) {
             (13 | 255, INDEX) => Some(Whole::NotRead(n)),
-            (1..=12, i) if i < ends.len() => Some(Whole::FirstRefused(Some(n), i)),
+            (1..=12 | 15, i) if i < ends.len() => Some(Whole::FirstRefused(Some(n), i)),
             _ => None,
         },
         _ => None,

@@ -52,7 +52,8 @@ type Components = Vec<(String, String)>;
 pub const EDGES: &[&str] = &[
     "2262-04-11T23:47:16.854775807", "1677-09-21T00:12:43.145224192", "1969-12-31T23:59:59.5", "1969-12-31T23:59:59.0005",
     "1997-01-31 092656+04:00", "2020-1-1xy", "+5881580-07-11", "-5877641-06-23", "+2147483647-01-01", "-2147483648-12-31", "0000-01-01",
-    "9999-12-31T23:59:60.999999999Z", "23:59:60", "12:00 AM", "0:00 AM", "1234", "306783378 weeks -2 days 0.1 months", "1 day 2",
+    "9999-12-31T23:59:60.999999999Z", "2262-04-12T00:47:16.854775807+01:00", "1677-09-20T23:12:43.145224192-01",
+    "0000-01-01T00:00:00+00:01", "9999-12-31T23:59:59-00:01", "2020-01-01T23:59:60\u{3000}-0001", "23:59:60", "12:00 AM", "0:00 AM", "1234", "306783378 weeks -2 days 0.1 months", "1 day 2",
     "1.000000000000000 days", "2147483647", "-2147483648", "9223372036854775807", "-9223372036854775808",
 ];
 
@@ -132,8 +133,34 @@ impl Generator {
         }
         let separator = self.pick(&["T", "T", "T", " ", " ", "t", "_", "  ", ""]);
         let clock = self.clock();
-        let tail = self.pick(&["", "", "", "Z", "Z", "z", " ", "ZZ", "+00:00", "-08:00", " UTC", "Zz", "x", "é", "."]);
+        let tail = match self.below(3) {
+            0 => self.offset(),
+            _ => self.pick(&["", "", "", "Z", "Z", "z", " ", "ZZ", " Z", " UTC", "Zz", "x", "é", "."]).to_string(),
+        };
         format!("{date}{separator}{clock}{tail}")
+    }
+
+    /// An offset, as a rule in range and of its shape: white space or what looks like it, a sign, hours and minutes.
+    fn offset(&mut self) -> String {
+        let white: String = match self.below(8) {
+            0..=3 => String::new(),
+            4 => " ".into(),
+            5 => (0..1 + self.below(3)).map(|_| self.white()).collect(),
+            6 => self.white().to_string(),
+            _ => self.pick(&["\u{200B}", "\u{180E}", "\u{FEFF}", "_"]).into(),
+        };
+        let sign = if self.one_in(12) { self.pick(&["", "\u{2212}", "\u{B1}", "++", "+-"]) } else { self.pick(&["+", "-"]) };
+        let hours = if self.one_in(8) { 22 + self.below(78) } else { self.below(24) };
+        let minutes = if self.one_in(8) { 57 + self.below(43) } else { self.below(60) };
+        let figures = match self.below(16) {
+            0..=6 => format!("{hours:02}:{minutes:02}"),
+            7..=9 => format!("{hours:02}{minutes:02}"),
+            10..=12 => format!("{hours:02}"),
+            13 => format!("{hours}:{minutes}"),
+            14 => self.pick(&["", "0", "00:", "00:0", "000", "00:00:00", "000000", "00.00", "0:000", "UTC", ":00"]).into(),
+            _ => format!("{hours:02}:{minutes:02}{}", self.pick(&["Z", " ", "x", "\u{3000}", "0"])),
+        };
+        format!("{white}{sign}{figures}")
     }
 
     fn time(&mut self) -> String {

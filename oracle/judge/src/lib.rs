@@ -73,6 +73,8 @@ fn stamp_step(e: &ArrowError) -> Option<u8> {
         4
     } else if text.starts_with("no time zone: ") {
         5
+    } else if text.starts_with("offset out of range: ") {
+        15
     } else if text.starts_with("The dates that can be represented as nanoseconds") {
         6
     } else {
@@ -184,11 +186,13 @@ pub fn rust_bytes(reader: Reader, text: &[u8]) -> Answer {
     std::str::from_utf8(text).map_or(Refused(Some(1)), |s| rust(reader, s))
 }
 
-/// Whether a stamp's tail is one that the Rust could read as an offset or a zone name, which the shim's `Tz` cannot tell.
+/// Whether a stamp's tail is one that the Rust could read as a zone name or as an offset that is not of RFC 3339, which the shim's `Tz`
+/// cannot tell.
 pub fn beyond_the_claim(reader: Reader, text: &[u8]) -> bool {
     let Ok(s) = std::str::from_utf8(text) else { return false };
-    if rust(reader, s) != Refused(Some(5)) {
-        return false;
+    match rust(reader, s) {
+        Refused(Some(5)) => (),
+        answer => return answer == Refused(Some(15)),
     }
     let trims = !matches!(reader, Reader::StringToTimestampNanos | Reader::Date64);
     let clock = &(if trims { trimmed(s) } else { s })[11..];

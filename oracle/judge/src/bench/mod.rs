@@ -9,18 +9,24 @@ use crate::{rust_bytes, Reader, Refused};
 use sides::Times;
 use texts::{Set, SETS};
 
-/// A reader by the name that its table has, the most that it may take of the Rust's time on realistic texts, and on long ones, if that is set.
-pub const READERS: [(&str, Reader, f64, Option<f64>); 16] = [
-    ("string_to_timestamp_nanos", Reader::StringToTimestampNanos, 1.00, None),
-    ("TimestampNanosecondType", Reader::TimestampNanosecond, 1.00, None),
-    ("TimestampMicrosecondType", Reader::TimestampMicrosecond, 1.00, None),
-    ("TimestampMillisecondType", Reader::TimestampMillisecond, 1.00, None),
-    ("TimestampSecondType", Reader::TimestampSecond, 1.00, None),
-    ("string_to_time_nanoseconds", Reader::StringToTimeNanoseconds, 1.00, Some(1.15)),
-    ("Time64NanosecondType", Reader::Time64Nanosecond, 1.00, Some(1.15)),
-    ("Time64MicrosecondType", Reader::Time64Microsecond, 1.00, Some(1.15)),
-    ("Time32MillisecondType", Reader::Time32Millisecond, 1.00, Some(1.15)),
-    ("Time32SecondType", Reader::Time32Second, 1.00, Some(1.15)),
+/// A bar on one more set of a reader's texts, by its place in `SETS`, and what the table calls it.
+pub type Other = Option<(usize, &'static str, f64)>;
+
+const LONG: Other = Some((2, "long", 1.15));
+const OFFSET: Other = Some((5, "offset", 1.00));
+
+/// A reader by the name that its table has, the most that it may take of the Rust's time on realistic texts, and on others, if that is set.
+pub const READERS: [(&str, Reader, f64, Other); 16] = [
+    ("string_to_timestamp_nanos", Reader::StringToTimestampNanos, 1.00, OFFSET),
+    ("TimestampNanosecondType", Reader::TimestampNanosecond, 1.00, OFFSET),
+    ("TimestampMicrosecondType", Reader::TimestampMicrosecond, 1.00, OFFSET),
+    ("TimestampMillisecondType", Reader::TimestampMillisecond, 1.00, OFFSET),
+    ("TimestampSecondType", Reader::TimestampSecond, 1.00, OFFSET),
+    ("string_to_time_nanoseconds", Reader::StringToTimeNanoseconds, 1.00, LONG),
+    ("Time64NanosecondType", Reader::Time64Nanosecond, 1.00, LONG),
+    ("Time64MicrosecondType", Reader::Time64Microsecond, 1.00, LONG),
+    ("Time32MillisecondType", Reader::Time32Millisecond, 1.00, LONG),
+    ("Time32SecondType", Reader::Time32Second, 1.00, LONG),
     ("Date32Type", Reader::Date32, 1.30, None),
     ("Date64Type", Reader::Date64, 1.30, None),
     ("parse_interval_year_month", Reader::IntervalYearMonth, 0.40, None),
@@ -34,8 +40,8 @@ pub struct Row {
     pub name: &'static str,
     pub reader: Reader,
     pub bar: f64,
-    pub long_bar: Option<f64>,
-    pub times: [Option<Times>; 5],
+    pub other: Other,
+    pub times: [Option<Times>; 6],
 }
 
 impl Row {
@@ -45,8 +51,8 @@ impl Row {
     }
 
     pub fn met(&self) -> bool {
-        let long = self.times[2].map_or(f64::NAN, |t| t.ratio);
-        self.ratio() <= self.bar && self.long_bar.is_none_or(|bar| long <= bar)
+        let ratio = |set: usize| self.times[set].map_or(f64::NAN, |t| t.ratio);
+        self.ratio() <= self.bar && self.other.is_none_or(|(set, _, bar)| ratio(set) <= bar)
     }
 
     fn cell(&self, i: usize) -> String {
@@ -54,9 +60,9 @@ impl Row {
     }
 
     fn line(&self) -> String {
-        let [realistic, short, long, refused, later] = [0, 1, 2, 3, 4].map(|i| self.cell(i));
-        let bar = self.long_bar.map_or(format!("{:.2}", self.bar), |bar| format!("{:.2}, long {bar:.2}", self.bar));
-        format!("| `{}` | {realistic} | {bar} | {short} | {long} | {refused} | {later} |", self.name)
+        let [realistic, short, long, refused, later, offset] = [0, 1, 2, 3, 4, 5].map(|i| self.cell(i));
+        let bar = self.other.map_or(format!("{:.2}", self.bar), |(_, set, bar)| format!("{:.2}, {set} {bar:.2}", self.bar));
+        format!("| `{}` | {realistic} | {bar} | {short} | {long} | {refused} | {later} | {offset} |", self.name)
     }
 }
 
@@ -80,13 +86,13 @@ pub fn rows(same_order: bool) -> Vec<Row> {
     timed(READERS[0].1, Set::Realistic);
     READERS
         .iter()
-        .map(|&(name, reader, bar, long_bar)| Row { name, reader, bar, long_bar, times: SETS.map(|set| timed(reader, set)) })
+        .map(|&(name, reader, bar, other)| Row { name, reader, bar, other, times: SETS.map(|set| timed(reader, set)) })
         .collect()
 }
 
 /// The table, in Markdown.
 pub fn table(rows: &[Row]) -> String {
-    let head = "| reader | realistic | bar | short | long | refused | a later attempt |\n|---|---|---|---|---|---|---|";
+    let head = "| reader | realistic | bar | short | long | refused | a later attempt | with an offset |\n|---|---|---|---|---|---|---|---|";
     let lines: Vec<String> = rows.iter().map(Row::line).collect();
     let missed: Vec<&str> = rows.iter().filter(|r| !r.met()).map(|r| r.name).collect();
     let verdict = if missed.is_empty() { "Every bar is met".to_string() } else { format!("Above a bar: {}", missed.join(", ")) };
@@ -108,5 +114,5 @@ pub fn examples() -> String {
         texts.iter().take(2).map(|t| format!("`{}`", t.replace('\n', "\\n"))).collect::<Vec<_>>().join("<br>")
     };
     let line = |(what, reader)| format!("| {what} | {} |", SETS.map(|set| cell(reader, set)).join(" | "));
-    format!("| texts | realistic | short | long | refused | a later attempt |\n|---|---|---|---|---|---|\n{}", of.map(line).join("\n"))
+    format!("| texts | realistic | short | long | refused | a later attempt | with an offset |\n|---|---|---|---|---|---|---|\n{}", of.map(line).join("\n"))
 }

@@ -19,9 +19,11 @@ pub enum Set {
     Refused,
     /// Read by a column at its second or third attempt.
     Later,
+    /// Realistic, with an offset in place of Z or nothing.
+    Offset,
 }
 
-pub const SETS: [Set; 5] = [Set::Realistic, Set::Short, Set::Long, Set::Refused, Set::Later];
+pub const SETS: [Set; 6] = [Set::Realistic, Set::Short, Set::Long, Set::Refused, Set::Later, Set::Offset];
 
 /// What a reader's texts are.
 #[derive(Clone, Copy, Debug, PartialEq, Eq)]
@@ -59,9 +61,9 @@ fn attempts(reader: Reader) -> bool {
     !one && matches!(kind(reader), Kind::Stamp | Kind::Time | Kind::Date)
 }
 
-/// The texts of a reader's set; none where it makes no later attempt.
+/// The texts of a reader's set; none where it makes no later attempt, or takes no offset.
 pub fn texts(reader: Reader, set: Set) -> Option<Vec<String>> {
-    if set == Set::Later && !attempts(reader) {
+    if set == Set::Later && !attempts(reader) || set == Set::Offset && kind(reader) != Kind::Stamp {
         return None;
     }
     Some(seeded(kind(reader), set, TEXTS))
@@ -112,10 +114,18 @@ fn stamp(g: &mut Generator, set: Set) -> String {
         (Set::Refused, 0) => format!("{}-02-30T{time}Z", &date[..4]),
         (Set::Refused, 1) => format!("{date}T{}", &time[..5]),
         (Set::Refused, _) => format!("{date}T24{}Z", &time[2..]),
+        (Set::Offset, 0) => format!("{date}T{time}{}:00", offset(g)),
+        (Set::Offset, 1) => format!("{date} {time}.{} {}", g.digits(3), offset(g)),
+        (Set::Offset, _) => format!("{date}T{time}.{}{}30", g.digits(9), offset(g)),
         (_, 0) => format!("{date}T{time}Z"),
         (_, 1) => format!("{date} {time}.{}", g.digits(3)),
         _ => format!("{date}T{time}.{}Z", g.digits(9)),
     }
+}
+
+/// A sign and hours, as dealers abroad have them.
+fn offset(g: &mut Generator) -> String {
+    format!("{}{:02}", ["+", "-"][g.below(2) as usize], g.below(13))
 }
 
 fn time(g: &mut Generator, set: Set) -> String {

@@ -1,4 +1,4 @@
-//! differ SEED COUNT: the Rust and the library on the same texts, COUNT for each family and besides all short texts over small alphabets,
+//! differ SEED COUNT [stamps]: the Rust and the library on the same texts, COUNT for each family and besides all short texts over small alphabets,
 //! COUNT / 4 more intervals with a fault, and the listing of each interval; of each stamp, and of more about second 60, the site stamp; then
 //! COUNT / 4 intervals and extreme ones printed; then whole columns, COUNT / 20 of each of the ten.
 use judge::column::{accepted, by_library, by_rust, Texts, Whole, COLUMNS};
@@ -130,7 +130,12 @@ fn exhaust(family: Family, begin: &str, alphabet: &[&str], most: u32, g: &mut Ge
 fn short(family: Family, g: &mut Generator) -> Counted {
     let mut n = Counted::default();
     match family {
-        Family::Stamp => exhaust(family, "1970-01-0", &["1", "T", " ", "0", ":", "Z", "."], 6, g, &mut n),
+        Family::Stamp => {
+            exhaust(family, "1970-01-0", &["1", "T", " ", "0", ":", "Z", "."], 6, g, &mut n);
+            for time in ["1970-01-01T23:59:60", "1970-01-01 000000", "1970-01-01"] {
+                exhaust(family, time, &["+", "-", "0", "2", "6", ":", " ", "\u{3000}"], 6, g, &mut n);
+            }
+        }
         Family::Time => exhaust(family, "", &["0", "1", "2", "6", ":", ".", " ", "A", "M", "p"], 6, g, &mut n),
         Family::Date => exhaust(family, "", &["0", "1", "2", "-", "+", "x", "é"], 7, g, &mut n),
         Family::Interval => exhaust(family, "", &["1", "0", "-", ".", " ", "d", "m", "s", "\u{212A}", "w"], 6, g, &mut n),
@@ -309,9 +314,14 @@ fn compare_family(family: Family, seed: u64, count: u64) -> [u64; 2] {
 }
 
 fn main() {
-    let mut args = std::env::args().skip(1).map(|a| a.parse::<u64>().expect("differ SEED COUNT"));
-    let (seed, count) = (args.next().unwrap_or(1), args.next().unwrap_or(1_000_000));
+    let number = |a: String| a.parse::<u64>().expect("differ SEED COUNT [stamps]");
+    let mut args = std::env::args().skip(1);
+    let (seed, count) = (args.next().map_or(1, number), args.next().map_or(1_000_000, number));
     println!("seed {seed}, {count} texts a family");
+    if args.next().is_some() {
+        let [compared, differ] = compare_family(Family::Stamp, seed, count);
+        finish(compared, differ);
+    }
     let families = [Family::Stamp, Family::Time, Family::Date, Family::Interval].map(|family| compare_family(family, seed, count));
     let n = intervals(seed, count / 4);
     println!(
@@ -322,6 +332,10 @@ fn main() {
     println!("Whole columns: compared {all}, accepted {accepted}, a text refused {refused}, not read {not_read}, different {differ}");
     let (mut compared, mut failed) = (all + n.compared, differ + n.differ);
     families.iter().for_each(|[all, differ]| (compared, failed) = (compared + all, failed + differ));
+    finish(compared, failed);
+}
+
+fn finish(compared: u64, failed: u64) -> ! {
     println!("{} passed, {failed} failed", compared - failed);
     std::process::exit((failed != 0) as i32);
 }

@@ -1,4 +1,4 @@
-//! What `parse.rs` names of arrow-array: names of types, checked operations, and a `Tz` that refuses every text.
+//! What `parse.rs` names of arrow-array: names of types, checked operations, and a `Tz` that reads offsets within RFC 3339's ranges.
 use arrow_schema::ArrowError;
 
 pub trait ArrowNativeTypeOp: arrow_buffer::ArrowNativeType {
@@ -101,7 +101,8 @@ pub mod timezone {
     use arrow_schema::ArrowError;
     use chrono::{FixedOffset, LocalResult, NaiveDate, NaiveDateTime, TimeZone};
 
-    /// A zone that no text names, so that what has an offset or a zone name is refused.
+    /// An offset of hours to 23 and minutes to 59, held by chrono. What else is refused tells its step: no offset's shape, or out of range.
+    /// The Rust's own reads zone names too, if it is built so, and what it says of the rest is not known here.
     #[derive(Clone, Copy, Debug)]
     pub struct Tz(FixedOffset);
 
@@ -109,7 +110,26 @@ pub mod timezone {
         type Err = ArrowError;
 
         fn from_str(s: &str) -> Result<Self, ArrowError> {
-            Err(ArrowError::ParseError(format!("no time zone: {s}")))
+            let refused = |why: &str| ArrowError::ParseError(format!("{why}: {s}"));
+            let (east, figures) = match s.as_bytes() {
+                [b'+', figures @ ..] => (1, figures),
+                [b'-', figures @ ..] => (-1, figures),
+                _ => return Err(refused("no time zone")),
+            };
+            let (h, m) = match figures {
+                [h, i] => ([h, i], [&b'0'; 2]),
+                [h, i, m, n] | [h, i, b':', m, n] => ([h, i], [m, n]),
+                _ => return Err(refused("no time zone")),
+            };
+            if h.iter().chain(&m).any(|b| !b.is_ascii_digit()) {
+                return Err(refused("no time zone"));
+            }
+            let number = |[a, b]: [&u8; 2]| i32::from(a - b'0') * 10 + i32::from(b - b'0');
+            if number(h) > 23 || number(m) > 59 {
+                return Err(refused("offset out of range"));
+            }
+            let offset = FixedOffset::east_opt(east * (number(h) * 3_600 + number(m) * 60));
+            offset.map(Tz).ok_or_else(|| refused("not held by chrono"))
         }
     }
 
