@@ -1,4 +1,5 @@
--- Each refusal that a delivered call can give is a number of the list, but for 255, which says that a number names no default unit. So a status of 0 means accepted, and any other refused. Assumes nothing.
+-- Each refusal that a delivered call can give is a number of the list, but for 255, which says that a number names no default unit. So a
+-- status of 0 means accepted, and any other refused. Assumes nothing.
 use mathlib.Core.Path.{◌≡◌, refl, sym, ◌∙◌}
 use mathlib.Core.Bool.{Bool, true, false, cond}
 use mathlib.Core.Logic.{◌⊎◌, inl, inr, ⊎_elim, ◌↔◌}

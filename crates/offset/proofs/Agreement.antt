@@ -12,7 +12,7 @@ use lib.ListN.{length, get_or, take, drop, length-append, length-drop, take-appe
 use lib.Seq.{drop_at, length-take-le}
 use borrow.Author.Tests.{eqb-true}
 use Rattle.text.specs.Digits.{is_digit, worth, value}
-use Rattle.text.proofs.Bools.{or_cases, by_test}
+use Rattle.text.proofs.Bools.{and_false, or_cases, by_test}
 use Rattle.text.proofs.DigitLists.{two_value}
 use Rattle.text.proofs.Logic.{both, none_some}
 use Rattle.text.proofs.Places.{last_of}
@@ -117,10 +117,8 @@ module _ (b h i : ℕ) (S : Sign b (eqb b 0x2D)) (fh : is_digit h ≡ true) (fi 
 numoffset_sound : (x : List ℕ) (o : Offset) → numoffset x ≡ Some o → Numoffset x o
 unfolding numoffset
 numoffset_sound [] o e = none_some e
-numoffset_sound (b ∷ []) o e = by_test (eqb b 0x2B || eqb b 0x2D) (λ p. none_some (rw p at e)) (λ p. none_some (rw p at e))
-numoffset_sound (b ∷ h ∷ []) o e =
-    by_test (is_digit h) (λ q. by_test (eqb b 0x2B || eqb b 0x2D) (λ p. none_some (rw (p, q) at e)) (λ p. none_some (rw p at e)))
-    (λ q. by_test (eqb b 0x2B || eqb b 0x2D) (λ p. none_some (rw (p, q) at e)) (λ p. none_some (rw p at e)))
+numoffset_sound (b ∷ []) o e = none_some (rw (and_false (eqb b 0x2B || eqb b 0x2D)) at e)
+numoffset_sound (b ∷ h ∷ []) o e = none_some (rw (and_false (is_digit h), and_false (eqb b 0x2B || eqb b 0x2D)) at e)
 numoffset_sound (b ∷ h ∷ i ∷ r) o e =
     by_test ((eqb b 0x2B || eqb b 0x2D) && (is_digit h && is_digit i))
     (λ p.

@@ -94,9 +94,6 @@ agrees x o u r = (only x o r, λ e. subst (InUtc x o) e (is_utc x o r))
 pub itself : (x : Moment) → x.time.hour < 24 → x.time.minute < 60 → InUtc x utc x
 itself x h m = in_utc x.day x.time.hour x.time.minute h m (eq_of _ _ (omega (arith, sub-ℤ (minutes x.day x.time.hour x.time.minute) (pos 0))))
 
-pub less_utc : (x : Moment) → x.time.hour < 24 → x.time.minute < 60 → less x utc ≡ x
-less_utc x h m = only x utc refl (itself x h m)
-
 -- ---- what stays, and how far it goes
 
 -- the mark

@@ -22,9 +22,9 @@ use Rattle.text.proofs.Places.{not_sign, last_of}
 use Rattle.clock.proofs.Figures.{by_two, by_four, by_fields, two_figures, size_of, seconds_end}
 use Rattle.offset.specs.declared.Offset.{Offset}
 use Rattle.offset.specs.Grammar.{utc, Numeric, Ending, none_given, capital_z, small_z, in_figures}
-use Rattle.offset.specs.Answer.{less}
+use Rattle.offset.specs.Utc.{InUtc}
 use Rattle.offset.proofs.Agreement.{front, last}
-use Rattle.offset.proofs.Shift.{agrees as in_utc_agrees, itself, less_utc}
+use Rattle.offset.proofs.Shift.{agrees as in_utc_agrees}
 use Rattle.stamp_text.specs.Grammar.{Ymd, FullDate, full_date, PartialTime, colons, basic, capital, Stamp, date_alone, date_time}
 use Rattle.stamp_text.proofs.LongestTimes.{eight_bytes}
 use Rattle.number.specs.Widths.{in_signed}
@@ -268,16 +268,14 @@ agrees t x = (into, λ e. let y = accepted_from t x e in rw (← y.told) (from y
     into : {x : Marked} → SiteReads t x → site_marked t ≡ accepted x
     into (site_reads {d = d} {c = c} z s e ok fits) =
         let n = held_nanos c in
-        let b = stamps.hour_minute c ok in
-        let x : Moment = moment z (held_clock c) in
-        rw ((stamps.agrees t x).0 (names z (is_plain s) e ok refl (itself x b.0 b.1)), n, fits, site_test_lem s)
+        rw ((stamps.agrees t (moment z (held_clock c))).0 (names z (is_plain s) e ok refl (stamps.in_utc_itself c z ok)), n, fits, site_test_lem s)
 
     from : {m : Moment} → is_site t ≡ true → in_signed 63 (instant m) ≡ true → Names t m → SiteReads t (marked (instant m) m.time.leap)
     from {m} s fits (names {c = c} {o = o} z p e ok r u) =
         let k = site_of p s in
-        let b = stamps.hour_minute c ok in
         let x : Moment = moment z (held_clock c) in
-        let w : x ≡ m = sym (less_utc x b.0 b.1) ∙ ap (less x) (sym k.1) ∙ (in_utc_agrees x o m r).0 u in
+        let v : InUtc x utc m = subst (λ (p : Offset). InUtc x p m) k.1 u in
+        let w : x ≡ m = sym ((in_utc_agrees x utc x refl).0 (stamps.in_utc_itself c z ok)) ∙ (in_utc_agrees x utc m refl).0 v in
         let n = held_nanos c in
         rw (← w, n) (site_reads z k.0 e ok (rw (← w, n) at fits))
 

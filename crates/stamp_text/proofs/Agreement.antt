@@ -37,7 +37,7 @@ use Rattle.offset.specs.Utc.{in_range as offset_in_range, ahead, InUtc}
 use Rattle.offset.specs.Answer.{offset_of, less}
 use Rattle.offset.proofs.Agreement as offsets
 use Rattle.offset.proofs.Agreement.{last, ending_utf8}
-use Rattle.offset.proofs.Shift.{agrees as offset_moment, is_utc, itself, less_utc, instant_less}
+use Rattle.offset.proofs.Shift.{agrees as offset_moment, is_utc, itself, instant_less}
 use Rattle.stamp_text.specs.Meaning.{TimeOffset, zulu, numeric as of_figures, Rfc3339, date_time as rfc, Names, names, Reads, reads}
 use Rattle.stamp_text.proofs.LongestTimes.{Ok, if_ok, time_sound, before_ending, eight_bytes, of_grammar}
 
@@ -92,11 +92,8 @@ pub day_read : {t : List ℕ} {d : Ymd} → FullDate t d → (r : List ℕ) (z :
 day_read f r z e = day_is f r ∙ e
 
 -- what a stamp of the grammar comes to, by its date and by whether its time and its offset are in range
-abbrev pub if_offset : Offset → Moment → Outcome Moment
-if_offset o x = cond (offset_in_range o) (accepted (less x o)) (refused 15)
-
 abbrev pub if_in_range : Clock → Offset → ℤ → Outcome Moment
-if_in_range c o z = cond (in_range c.hour c.minute c.second) (if_offset o (moment z (held_clock c))) (refused 4)
+if_in_range c o z = cond (in_range c.hour c.minute c.second) (on_offset (moment z (held_clock c)) (Some o)) (refused 4)
 
 abbrev pub if_dated : Clock → Offset → Option ℤ → Outcome Moment
 if_dated c o None = refused 2
@@ -111,8 +108,13 @@ hour_minute c ok =
     (omega arith, omega arith)
 
 -- a time in range, in UTC, is the moment itself
-in_utc_lem : (c : Clock) (z : ℤ) → Ok c → accepted (moment z (held_clock c)) ≡ if_offset utc (moment z (held_clock c))
-in_utc_lem c z ok = let b = hour_minute c ok in ap accepted (sym (less_utc (moment z (held_clock c)) b.0 b.1))
+pub in_utc_itself : (c : Clock) (z : ℤ) → Ok c → InUtc (moment z (held_clock c)) utc (moment z (held_clock c))
+in_utc_itself c z ok = let b = hour_minute c ok in itself (moment z (held_clock c)) b.0 b.1
+
+in_utc_lem : (c : Clock) (z : ℤ) → Ok c → accepted (moment z (held_clock c)) ≡ on_offset (moment z (held_clock c)) (Some utc)
+in_utc_lem c z ok =
+    let x : Moment = moment z (held_clock c) in
+    ap accepted (sym ((offset_moment x utc x refl).0 (in_utc_itself c z ok)))
 
 -- what ends with a digit is neither nothing nor a Z
 no_z : (e : List ℕ) → is_digit (get_or e (length e - 1) 0) ≡ true → is_ending e ≡ false
@@ -120,7 +122,7 @@ no_z [] q = absurd (false≢true q)
 no_z (b ∷ []) q = rw (not_sign b 0x5A q (inr (omega arith)), not_sign b 0x7A q (inr (omega arith)))
 no_z (b ∷ c ∷ e) q = refl
 
-pub at_end_lem : {e : List ℕ} {o : Offset} → Ending e o → (c : Clock) (z : ℤ) → Ok c → at_end z (record { time = held_clock c; tail = e }) ≡ if_offset o (moment z (held_clock c))
+pub at_end_lem : {e : List ℕ} {o : Offset} → Ending e o → (c : Clock) (z : ℤ) → Ok c → at_end z (record { time = held_clock c; tail = e }) ≡ on_offset (moment z (held_clock c)) (Some o)
 at_end_lem none_given c z ok = in_utc_lem c z ok
 at_end_lem capital_z c z ok = in_utc_lem c z ok
 at_end_lem small_z c z ok = in_utc_lem c z ok
@@ -209,7 +211,7 @@ module _ (t : List ℕ) (z : ℤ) (x : DateIs t z) (m : Moment) where
   alone h e =
       let q : moment z (held 0 0 0 0) ≡ m = cc in
       let w : t ≡ x.bytes = x.text ∙ ap (λ (r : List ℕ). x.bytes ++ r) (drop_of_length-le t {i = 10} (omega arith)) ∙ append-nil x.bytes in
-      rw (← q, w) (names z (date_alone x.full) x.named refl refl (itself (moment z (held 0 0 0 0)) (lit< tt) (lit< tt)))
+      rw (← q, w) (names z (date_alone x.full) x.named refl refl (in_utc_itself (clock 0 0 0 []) z refl))
 
   -- behind a separator and a time: the moment that the ending makes of it
   ended : (length t ≡ 10 → ⊥) → is_separator (get_or t 10 0) ≡ true → (y : Timed) → time_of (drop 11 t) ≡ Some y → (o : Offset) → Ending y.tail o → offset_in_range o ≡ true → InUtc (moment z y.time) o m → Names t m
@@ -226,8 +228,7 @@ module _ (t : List ℕ) (z : ℤ) (x : DateIs t z) (m : Moment) where
   at_utc : (y : Timed) → time_of (drop 11 t) ≡ Some y → InUtc (moment z y.time) utc (moment z y.time)
   at_utc y p =
       let x' = time_sound (drop 11 t) y p in
-      let b = hour_minute x'.fields (of_grammar x'.time).ok in
-      rw x'.held_as (itself (moment z (held_clock x'.fields)) b.0 b.1)
+      rw x'.held_as (in_utc_itself x'.fields z (of_grammar x'.time).ok)
 
   at_offset : (length t ≡ 10 → ⊥) → is_separator (get_or t 10 0) ≡ true → (y : Timed) → time_of (drop 11 t) ≡ Some y → (o : Option Offset) → offset_of y.tail ≡ o → on_offset (moment z y.time) o ≡ accepted m → Names t m
   at_offset h s y p None q e = clash e

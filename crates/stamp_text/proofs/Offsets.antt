@@ -15,12 +15,12 @@ use Rattle.datetime.specs.Moment.{Moment, moment, instant}
 use Rattle.offset.specs.declared.Offset.{Offset}
 use Rattle.offset.specs.Grammar.{Ending, capital_z}
 use Rattle.offset.specs.Utc.{ahead}
-use Rattle.offset.proofs.Shift.{itself, instant_less}
+use Rattle.offset.proofs.Shift.{instant_less}
 use Rattle.stamp_text.specs.Grammar.{Ymd, FullDate, Separator, PartialTime, Apart, date_time}
 use Rattle.stamp_text.specs.Answer.{day_of, Timed, time_of, is_ending, is_separator, at_end, on_time, after_date, on_date, plain_moment, datetime, stamp_nanos}
 use Rattle.stamp_text.specs.Before.{ended, datetime_before, stamp_before}
 use Rattle.stamp_text.specs.Meaning.{names}
-use Rattle.stamp_text.proofs.Agreement.{agrees, hour_minute}
+use Rattle.stamp_text.proofs.Agreement.{agrees, in_utc_itself}
 use Rattle.stamp_text.proofs.Marks.{written}
 
 -- ---- the same stamp with Z
@@ -37,10 +37,9 @@ unfolding no_digits
 with_z a b e s {c = c} f g p q w r =
     let y = written (date_time a b e s f g p q w) r in
     let x : Moment = moment y.day (held_clock c) in
-    let h = hour_minute c y.ok in
     record {
       local = x;
-      read = (agrees (a ++ (s ∷ (b ++ (0x5A ∷ [])))) x).0 (names y.day (date_time a b (0x5A ∷ []) s f g p capital_z (λ z. refl)) y.date y.ok refl (itself x h.0 h.1));
+      read = (agrees (a ++ (s ∷ (b ++ (0x5A ∷ [])))) x).0 (names y.day (date_time a b (0x5A ∷ []) s f g p capital_z (λ z. refl)) y.date y.ok refl (in_utc_itself c y.day y.ok));
       less = instant_less y.in_utc;
     }
 
