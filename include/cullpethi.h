@@ -1,7 +1,8 @@
-/* Readers of dates, times of day, timestamps and intervals, and printing of intervals, proved in Rattle. Link with libcullpethi.a.
+/* Readers of dates, times of day, timestamps and intervals, printing of intervals, and conversion of interval records, proved in Rattle.
+ * Link with libcullpethi.a.
  *
  * Each function returns CULLPETHI_OK and writes its cells, or returns a refusal's number and leaves every cell as it was, but for the one
- * that tells where: `place` of an interval, `index` of a column. That one is written exactly with the refusals that the function's comment
+ * that tells where: `place` of an interval, `index` of a column or of records. That one is written exactly with the refusals that the function's comment
  * names, and is not stored to otherwise. A text is `len` bytes at `text`: it needs no end mark, and is neither altered nor read past its
  * end. Where `len` is 0, `text` may be any pointer but NULL. Each cell is aligned, and apart from the other cells and from the text. A call
  * touches no other memory of the caller, keeps nothing and allocates nothing, so any number of threads may call.
@@ -34,6 +35,7 @@ enum cullpethi_status {
     CULLPETHI_SITE_STAMP = 12,   /* the plain stamp reader accepts the text, but it is no site stamp */
     CULLPETHI_COLUMN = 13,       /* the ends of a column's texts fall or pass the bytes, or there are fewer cells than ends */
     CULLPETHI_BUFFER = 14,       /* the buffer is too short */
+    CULLPETHI_RECORDS = 16,      /* the bytes are no whole number of records */
     CULLPETHI_NO_UNIT = 255,     /* the number of a default unit is none of cullpethi_unit */
     CULLPETHI_NO_COLUMN = 255    /* the number of a column is none of cullpethi_column */
 };
@@ -172,6 +174,26 @@ uint8_t cullpethi_list_interval(const uint8_t *text, size_t len, uint8_t default
  */
 uint8_t cullpethi_parse_column(uint8_t column, const uint8_t *texts, size_t texts_len, const uint32_t *ends, size_t ends_len,
                                int64_t *cells, size_t cells_len, size_t *index);
+
+/* The two functions that convert records of intervals have `from_len` bytes at `from` and `to_len` bytes at `to`. The two buffers lie apart from
+ * each other and from `index`, and neither need be aligned. Where a length is 0, its pointer may be any but NULL.
+ *
+ * A day-time record, Arrow's that older controllers store, is 8 bytes: days, then milliseconds, 32 signed bits each, little endian. A
+ * month-day-nano record is 16 bytes: months, days and nanoseconds in 32, 32 and 64 signed bits, likewise. Records lie one behind another.
+ *
+ * CULLPETHI_OK: every record at `from` is converted, and they are in the first bytes at `to`, twice `from_len` or half of it. What is past the
+ * last one is kept, whatever its length: it is not stored to.
+ * CULLPETHI_RECORDS: `from_len` is no multiple of the record at `from`. Then CULLPETHI_BUFFER: there is no room at `to` for all.
+ * With these and with CULLPETHI_NARROWED nothing at `to` is stored to, not even during the call.
+ */
+
+/* Day-time records as month-day-nano records: months 0, the same days, and the milliseconds times 1,000,000. Every record goes. */
+uint8_t cullpethi_day_time_to_month_day_nano(const uint8_t *from, size_t from_len, uint8_t *to, size_t to_len);
+
+/* Month-day-nano records as day-time records. CULLPETHI_NARROWED, after the other two: `index` is the number, from 0, of the first record whose
+ * months are not 0, whose nanoseconds are no multiple of 1,000,000, or whose milliseconds do not fit 32 bits. Months are not turned into
+ * days. With any other number `index` is not stored to. */
+uint8_t cullpethi_month_day_nano_to_day_time(const uint8_t *from, size_t from_len, uint8_t *to, size_t to_len, size_t *index);
 
 #ifdef __cplusplus
 }

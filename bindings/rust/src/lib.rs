@@ -1,5 +1,5 @@
-//! Readers of dates, times of day, timestamps and intervals, proved in Rattle, under the names of arrow-cast's `parse` module; and printing of
-//! intervals.
+//! Readers of dates, times of day, timestamps and intervals, proved in Rattle, under the names of arrow-cast's `parse` module; printing of
+//! intervals; and conversion of their records.
 //!
 //! | what is read | readers |
 //! |---|---|
@@ -13,6 +13,11 @@
 //! |---|---|
 //! | an interval, as `1 months 15 days` | its `Display`, [`write_interval`] |
 //! | the components of an interval text, as `unit=month whole=1 frac=500000000000000` | [`list_interval`], [`list_interval_into`] |
+//!
+//! | what is converted | by |
+//! |---|---|
+//! | Arrow's day-time records of 8 bytes to month-day-nano records of 16 | [`day_time_to_month_day_nano`], [`day_time_to_month_day_nano_vec`] |
+//! | and back | [`month_day_nano_to_day_time`], [`month_day_nano_to_day_time_vec`] |
 //!
 //! Each reader takes a [`Text`], bytes or characters, and gives its value or one [`Refusal`]. Three refusals of an interval tell where in
 //! the text they lie: see [`Refusal::place`]. The columns of arrow are types with a `parse` besides, as in arrow-cast: see [`Parser`].
@@ -30,6 +35,7 @@ mod columns;
 mod intervals;
 mod library;
 mod printing;
+mod records;
 mod refusal;
 mod site;
 mod text;
@@ -39,6 +45,7 @@ mod whole;
 pub use columns::*;
 pub use intervals::*;
 pub use printing::*;
+pub use records::*;
 pub use refusal::Refusal;
 pub use site::{site_stamp, SiteStamp};
 pub use text::Text;

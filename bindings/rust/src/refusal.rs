@@ -22,6 +22,7 @@ use std::fmt;
 /// assert_eq!(site_stamp("1970-01-01 00:00:00Z"), Err(Refusal::SiteStamp));
 /// assert_eq!(parse_column(Column::Date32, "", &[1], &mut [0]).unwrap_err().refusal, Refusal::Column);
 /// assert_eq!(write_interval(IntervalMonthDayNano::new(1, 0, 0), &mut [0; 7]), Err(Refusal::Buffer));
+/// assert_eq!(day_time_to_month_day_nano(&[0; 9], &mut [0; 32]), Err(Refusal::Records));
 /// ```
 #[derive(Clone, Copy, Debug, PartialEq, Eq, Hash, PartialOrd, Ord)]
 pub enum Refusal {
@@ -68,10 +69,12 @@ pub enum Refusal {
     Column,
     /// The buffer is too short: `1 months` into 7 bytes.
     Buffer,
+    /// The bytes are no whole number of records: `[0; 9]`, of day-time records.
+    Records,
 }
 
 impl Refusal {
-    /// The refusal's number, from 1 to 15: what the C interface returns.
+    /// The refusal's number, from 1 to 16: what the C interface returns.
     ///
     /// ```
     /// assert_eq!(cullpethi::Refusal::Tail.number(), 5);
@@ -93,6 +96,7 @@ impl Refusal {
             Refusal::SiteStamp => 12,
             Refusal::Column => 13,
             Refusal::Buffer => 14,
+            Refusal::Records => 16,
         }
     }
 
@@ -125,9 +129,11 @@ impl Refusal {
             15 => Refusal::Offset,
             6 => Refusal::Range,
             7 => Refusal::TimeOfDay,
+            11 => Refusal::Narrowed,
             12 => Refusal::SiteStamp,
             13 => Refusal::Column,
             14 => Refusal::Buffer,
+            16 => Refusal::Records,
             // 255 comes only of a number that `Column` does not have.
             n => unreachable!("{n} is no refusal of a call that has no place"),
         })
@@ -173,6 +179,7 @@ impl fmt::Display for Refusal {
             Refusal::SiteStamp => "the plain stamp reader accepts the text, but it is no site stamp",
             Refusal::Column => "the ends of a column's texts fall or pass the bytes, or there are fewer cells than ends",
             Refusal::Buffer => "the buffer is too short",
+            Refusal::Records => "the bytes are no whole number of records",
         })?;
         match self.place() {
             Some(place) => write!(f, ", at byte {place}"),

@@ -3,6 +3,8 @@ use Rattle.std.specs.Prelude.{◌≡◌, cond, List, ℕ, ℤ, Option, None, Som
 use Rattle.buffer.specs.Written.{in_room, length_of, left_in}
 use Rattle.parse_column.specs.Read.{whole_of}
 use Rattle.parse_column.specs.declared.ColumnRefusal.{ColumnRefusal}
+use Rattle.records.specs.Slices.{Answer, converted, stays, not_read}
+use Rattle.records.specs.Answer.{left}
 use Rattle.refusal.specs.Outcome.{Outcome, accepted, refused, and_then}
 use Rattle.site.specs.declared.Marked.{Marked}
 use Rattle.whole_column.specs.Answer.{Whole, all_accepted, first_refused, not_read, cells_after}
@@ -19,7 +21,7 @@ cells_of x = (x.nanos, cond x.leap 1 0)
 abbrev pub in_cells : Outcome Marked → Outcome (ℤ × ℕ)
 in_cells o = and_then o (λ x. accepted (cells_of x))
 
--- the cell `place`: a refusal's place is written, and without one the cell is as it was
+-- the cell `place` of an interval, or `index` of records: what a refusal tells is written, and where it tells nothing the cell is as it was
 abbrev pub ToldPlace : Option ℕ → ℕ → ℕ → Type 0
 ToldPlace None before after = after ≡ before
 ToldPlace (Some p) before after = after ≡ p
@@ -42,3 +44,19 @@ Tells r status before after = (zs : List ℤ) → ToldAt (whole_of r zs) status 
 -- the numbers, the cell and the buffer are as they were
 abbrev pub ToldText : Outcome (List ℕ) → ℕ → ℕ → ℕ → List ℕ → List ℕ → Type 0
 ToldText text status m n before after = Told (length_of (in_room (length before) text)) status m n × (after ≡ left_in (in_room (length before) text) before)
+
+-- of records: 0, or 11 where one stays, or the number with which none is read
+abbrev pub status_of : {A : Type 0} → Answer A → ℕ
+status_of (converted v) = 0
+status_of (stays i) = 11
+status_of (not_read n) = n
+
+-- what the cell `index` is told: the index of the first record that stays
+abbrev pub index_of : {A : Type 0} → Answer A → Option ℕ
+index_of (converted v) = None
+index_of (stays i) = Some i
+index_of (not_read n) = None
+
+-- and the buffer is as the conversion leaves it
+abbrev pub ToldRecords : Answer (List ℕ) → ℕ → List ℕ → List ℕ → Type 0
+ToldRecords a status before after = (status ≡ status_of a) × (after ≡ left a before)

@@ -1,4 +1,4 @@
-// An answer as a status and cells: the one place that writes what a caller lent, but for the cells of a whole column.
+// An answer as a status and cells: the one place that writes what a caller lent, but for the cells of a whole column and a lent buffer.
 #![tactic(auto)]
 
 ghost use Rattle.std.specs.Prelude.{◌≡◌};
@@ -9,13 +9,15 @@ ghost use Rattle.place.specs.Read.{refusal_of, place_in};
 ghost use Rattle.interval.specs.Read.{year_month_outcome, year_month_place, day_time_outcome, day_time_place};
 ghost use Rattle.total.specs.Read.{interval_outcome, place_read};
 ghost use Rattle.listing.specs.Read.{length_said, place_told};
-ghost use Rattle.cells.specs.Cells.{Told, ToldPlace, Tells, in_cells};
+ghost use Rattle.records.specs.Read.{said, said_of_records};
+ghost use Rattle.cells.specs.Cells.{Told, ToldPlace, Tells, in_cells, status_of, index_of};
 
 use count::Months;
 use interval::IntervalDayTime;
 use listing::ListRefusal;
 use parse_column::ColumnRefusal;
 use place::IntervalRefusal;
+use records::RecordsRefusal;
 use refusal::Refusal;
 use site::Marked;
 use total::Interval;
@@ -133,5 +135,27 @@ pub fn put_index(r: Result<(), ColumnRefusal>, index: &mut usize) -> u8
             why.number()
         }
         Err(ColumnRefusal::Call(why)) => why.number(),
+    }
+}
+
+// What a conversion of records answers, as a status.
+pub fn status(r: Result<(), Refusal>) -> u8
+    ensures { result ≡ status_of (said r) }
+{
+    let Err(why) = r else { return 0 };
+    why.number()
+}
+
+// And where a record may stay, the cell that tells which.
+pub fn put_record(r: Result<(), RecordsRefusal>, index: &mut usize) -> u8
+    ensures { (result ≡ status_of (said_of_records r)) × ToldPlace (index_of (said_of_records r)) index.old index.new }
+{
+    let Err(why) = r else { return 0 };
+    match why {
+        RecordsRefusal::Record(first) => {
+            *index = first;
+            Refusal::Narrowed.number()
+        }
+        RecordsRefusal::Call(refusal) => refusal.number(),
     }
 }

@@ -2,4 +2,5 @@
 pub mod ColumnStatus
 pub mod Listed
 pub mod Readings
+pub mod RecordStatus
 pub mod TextStatus

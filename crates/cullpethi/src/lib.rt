@@ -1,5 +1,5 @@
 // The C interface: each function returns 0 and writes its cells, or returns a refusal's number and writes nothing but, where there is one, the
-// cell that tells where (`index` of a column, `place` of an interval). `cullpethi_c` exports each under its name: C has no generic calls.
+// cell that tells where (`index` of a column or of records, `place` of an interval). `cullpethi_c` exports each under its name: C has no generic calls.
 #![tactic(auto)]
 
 ghost use Rattle.column.specs.Columns.{column};
@@ -16,13 +16,17 @@ ghost use Rattle.unit.specs.declared.IntervalUnit.TheVariants.{Year, Month, Day}
 ghost use Rattle.place.specs.Where.{place as place_of};
 ghost use Rattle.interval_text.specs.Text.{interval_text};
 ghost use Rattle.refusal.specs.Outcome.{accepted};
-ghost use Rattle.cells.specs.Cells.{Told, ToldPlace, ToldText, ToldColumn, in_cells};
+ghost use Rattle.records.specs.Answer.{month_day_nanos, day_times};
+ghost use Rattle.cells.specs.Cells.{Told, ToldPlace, ToldText, ToldColumn, ToldRecords, in_cells, index_of};
 ghost use Rattle.parse_column.specs.Numbers.{column_numbered};
 ghost use Rattle.cullpethi.specs.ColumnNumber.{in_column};
 ghost use Rattle.cullpethi.specs.DefaultUnit.{in_unit, place_in_unit, listing_in_unit};
 ghost use Rattle.std.specs.Prelude.{length};
 
-use cells::{put, put_day_time, put_index, put_interval, put_listed, put_marked, put_months};
+use cells::{
+    put, put_day_time, put_index, put_interval, put_listed, put_marked, put_months, put_record,
+    status,
+};
 use count::{Days, Months, Nanos};
 use date_column::{Date32Type, Date64Type};
 use interval::{
@@ -33,6 +37,7 @@ use interval_text::write_interval;
 use listing::list_interval;
 use parse_column::numbers::column_numbered;
 use parse_column::parse_column;
+use records::{day_time_to_month_day_nano, month_day_nano_to_day_time};
 use site::site_stamp;
 use stamp_column::{
     TimestampMicrosecondType, TimestampMillisecondType, TimestampNanosecondType,
@@ -246,4 +251,19 @@ pub fn cullpethi_parse_column(
         return 255;
     };
     put_index(parse_column(column, texts, ends, cells), index)
+}
+
+// Every day-time record of a slice as a month-day-nano record: 16 where the bytes are no whole number of records, then 14 where the other
+// buffer is too short.
+pub fn cullpethi_day_time_to_month_day_nano(from: &[u8], to: &mut [u8]) -> u8
+    ensures { ToldRecords (month_day_nanos from.now (length to.old)) result to.old to.new }
+{
+    status(day_time_to_month_day_nano(from, to))
+}
+
+// Every month-day-nano record of a slice as a day-time record: 16, then 14, then 11 and the index of the first that has none.
+pub fn cullpethi_month_day_nano_to_day_time(from: &[u8], to: &mut [u8], index: &mut usize) -> u8
+    ensures { ToldRecords (day_times from.now (length to.old)) result to.old to.new × ToldPlace (index_of (day_times from.now (length to.old))) index.old index.new }
+{
+    put_record(month_day_nano_to_day_time(from, to), index)
 }

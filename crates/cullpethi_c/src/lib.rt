@@ -15,7 +15,8 @@ ghost use Rattle.unit.specs.declared.IntervalUnit.TheVariants.{Year, Month, Day}
 ghost use Rattle.place.specs.Where.{place as place_of};
 ghost use Rattle.interval_text.specs.Text.{interval_text};
 ghost use Rattle.refusal.specs.Outcome.{accepted};
-ghost use Rattle.cells.specs.Cells.{Told, ToldPlace, ToldText, ToldColumn, in_cells};
+ghost use Rattle.records.specs.Answer.{month_day_nanos, day_times};
+ghost use Rattle.cells.specs.Cells.{Told, ToldPlace, ToldText, ToldColumn, ToldRecords, in_cells, index_of};
 ghost use Rattle.parse_column.specs.Numbers.{column_numbered};
 ghost use Rattle.cullpethi.specs.ColumnNumber.{in_column};
 ghost use Rattle.cullpethi.specs.DefaultUnit.{in_unit, place_in_unit, listing_in_unit};
@@ -228,4 +229,25 @@ pub extern "C" fn cullpethi_parse_column(
     ensures { ToldColumn (in_column (column_numbered «column») texts.now ends.now (length cells.old)) result index.old index.new cells.old cells.new }
 {
     cullpethi::cullpethi_parse_column(column, texts, ends, cells, index)
+}
+
+// Every day-time record of a slice as a month-day-nano record: 16 where the bytes are no whole number of records, then 14 where the other
+// buffer is too short.
+#[unsafe(no_mangle)]
+pub extern "C" fn cullpethi_day_time_to_month_day_nano(from: &[u8], to: &mut [u8]) -> u8
+    ensures { ToldRecords (month_day_nanos from.now (length to.old)) result to.old to.new }
+{
+    cullpethi::cullpethi_day_time_to_month_day_nano(from, to)
+}
+
+// Every month-day-nano record of a slice as a day-time record: 16, then 14, then 11 and the index of the first that has none.
+#[unsafe(no_mangle)]
+pub extern "C" fn cullpethi_month_day_nano_to_day_time(
+    from: &[u8],
+    to: &mut [u8],
+    index: &mut usize,
+) -> u8
+    ensures { ToldRecords (day_times from.now (length to.old)) result to.old to.new × ToldPlace (index_of (day_times from.now (length to.old))) index.old index.new }
+{
+    cullpethi::cullpethi_month_day_nano_to_day_time(from, to, index)
 }

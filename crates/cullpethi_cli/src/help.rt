@@ -204,7 +204,8 @@ fn refusals(out: &mut Out) {
         b"\nA text that is refused has no value, but a number and what it means; 8, 9 and 10 tell the byte of the text, from 0, where that
 begins, and a text that was an argument, or whose answer goes to a terminal, is shown with a caret below that place:\n",
     );
-    // Refusal::Column is of whole columns, which this program does not read, and Refusal::Buffer of a buffer too short, which it does not lend.
+    // Refusal::Column is of whole columns, which this program does not read, Refusal::Buffer of a buffer too short, which it does not lend, and
+    // Refusal::Records of records, which it does not convert.
     for why in [
         Refusal::NotUtf8,
         Refusal::Date,

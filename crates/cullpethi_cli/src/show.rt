@@ -215,5 +215,7 @@ fn meaning(why: Refusal) -> &'static [u8] {
         }
         // The program's buffers are long enough.
         Refusal::Buffer => b"the buffer is too short",
+        // The program converts no records.
+        Refusal::Records => b"the bytes are no whole number of records",
     }
 }

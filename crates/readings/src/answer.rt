@@ -1,5 +1,5 @@
 // The answer of each reader.
-use crate::{columns, intervals, printing, show, whole};
+use crate::{columns, conversion, intervals, printing, show, whole};
 use calendar::days_from_ymd;
 use lines::input::split_once;
 use number::parse::parse;
@@ -18,6 +18,8 @@ pub fn of(out: &impl Print, name: &[u8], text: &[u8]) -> io::Result<()> {
         b"column" => whole::of(out, text),
         b"write" => printing::write(out, text),
         b"list" => printing::list(out, text),
+        b"to_month_day_nano" => conversion::records(out, false, text),
+        b"to_day_time" => conversion::records(out, true, text),
         _ => ground(out, name, text),
     }
 }

@@ -8,6 +8,7 @@ use std::io;
 
 mod answer;
 mod columns;
+mod conversion;
 mod intervals;
 mod line;
 mod printing;

@@ -61,12 +61,12 @@ fn listed(out: &impl Print, text: &[u8], unit: &[u8], buffer: &mut [u8]) -> io::
 }
 
 // The front of the room, as long as a number says.
-fn lent<'a>(space: &'a mut [u8], length: &[u8]) -> Option<&'a mut [u8]> {
+pub fn lent<'a>(space: &'a mut [u8], length: &[u8]) -> Option<&'a mut [u8]> {
     space.get_mut(..parse::<u32>(length)? as usize)
 }
 
 // The status, and the length and the place where they were written.
-fn told(out: &impl Print, status: u8, length: usize, place: usize) -> io::Result<()> {
+pub fn told(out: &impl Print, status: u8, length: usize, place: usize) -> io::Result<()> {
     if status == 0 {
         show::bytes(out, b"accepted")?;
     } else {

@@ -37,6 +37,8 @@ pub enum Refusal {
     Column = 13,
     // The buffer is too short.
     Buffer = 14,
+    // The bytes are no whole number of records.
+    Records = 16,
 }
 
 impl Refusal {

@@ -254,17 +254,17 @@ year_month_lem = narrows YearMonths to_year_months (λ c v. (is_months, in_month
 -- ---- day-time
 
 -- a multiple of 1,000,000
-quot_back : (k : ℤ) → quot_z (k *ℤ pos 1_000_000) (pos 1_000_000) ≡ k
+pub quot_back : (k : ℤ) → quot_z (k *ℤ pos 1_000_000) (pos 1_000_000) ≡ k
 quot_back (pos a) = ap pos (omega arith)
 quot_back (negsuc a) =
     let e : suc a * 1_000_000 / 1_000_000 ≡ suc a = omega arith in
     quot_signed true (suc a * 1_000_000) 1_000_000 ∙ rw e
 
-no_rest : (k : ℤ) → nat_abs (k *ℤ pos 1_000_000) % 1_000_000 ≡ 0
+pub no_rest : (k : ℤ) → nat_abs (k *ℤ pos 1_000_000) % 1_000_000 ≡ 0
 no_rest (pos a) = omega arith
 no_rest (negsuc a) = omega (arith, abs_neg (suc a * 1_000_000))
 
-multiple : (z : ℤ) → nat_abs z % 1_000_000 ≡ 0 → z ≡ quot_z z (pos 1_000_000) *ℤ pos 1_000_000
+pub multiple : (z : ℤ) → nat_abs z % 1_000_000 ≡ 0 → z ≡ quot_z z (pos 1_000_000) *ℤ pos 1_000_000
 multiple (pos a) e = ap pos (omega arith)
 multiple (negsuc a) e =
     let q : ℤ = neg_ℤ (pos (suc a / 1_000_000)) in

@@ -1,0 +1,8 @@
+-- The loop's invariant: the other records of those before this one, and behind them what was there. Assumes nothing.
+use lib.ListN.{take}
+use Rattle.records.specs.Answer.{new_record}
+use Rattle.records.proofs.Loops.{Stored}
+use Rattle.records.proofs.slices.store_month_day_nanos.Given as goal
+
+abbrev pub invariant-loop-i : goal.invariant-loop-i
+invariant-loop-i l = Stored new_record 16 l.i (take l.i l.records) l.initial.to l.to
