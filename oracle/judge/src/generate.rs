@@ -1,4 +1,5 @@
-//! Texts for the comparison: every shape, the limits on both sides, damage, white space, long texts. Seeded.
+//! Texts for the comparison: every shape, the limits on both sides, damage, white space, long texts; and records. Seeded.
+use crate::records::{new, old, NEW, OLD};
 
 /// A family of texts, which its readers are tried on.
 #[derive(Clone, Copy, Debug, PartialEq, Eq)]
@@ -390,6 +391,54 @@ impl Generator {
         let out = self.below(8);
         let mut count = |bit: u64, bits: u64| if out & bit == 0 { self.count(bits) } else { 0 };
         (count(1, 32) as i32, count(2, 32) as i32, count(4, 64))
+    }
+}
+
+/// Records of intervals.
+impl Generator {
+    /// Up to eight old records, and now and then a part of one more.
+    pub fn old_records(&mut self) -> Vec<u8> {
+        let mut all: Vec<u8> = (0..self.below(9)).flat_map(|_| old(self.count(32) as i32, self.count(32) as i32)).collect();
+        self.part(&mut all, OLD);
+        all
+    }
+
+    /// Up to eight new records, of which one may have no old one, and now and then a part of one more.
+    pub fn new_records(&mut self) -> Vec<u8> {
+        let count = self.below(9);
+        let (odd, any) = (self.below(2 * count + 1), self.below(8) == 0);
+        let mut all: Vec<u8> = (0..count).flat_map(|i| if any || i == odd { self.new_record() } else { self.going() }).collect();
+        self.part(&mut all, NEW);
+        all
+    }
+
+    fn going(&mut self) -> Vec<u8> {
+        new(0, self.count(32) as i32, self.count(32) * 1_000_000)
+    }
+
+    /// A record that has an old one, or months, a remainder, more milliseconds than fit, perhaps by one; or any.
+    fn new_record(&mut self) -> Vec<u8> {
+        let (days, small) = (self.count(32) as i32, self.below(5) as i64 - 2);
+        let end = [i32::MIN, i32::MAX][self.below(2) as usize] as i64;
+        match self.below(6) {
+            0 => new(self.count(32) as i32, days, self.count(32) * 1_000_000),
+            1 => new(0, days, self.count(32) * 1_000_000 + small),
+            2 => new(0, days, (end + small) * 1_000_000),
+            3 => new(0, days, end * 1_000_000 + small),
+            4 => new(0, days, self.count(64)),
+            _ => {
+                let (months, days, nanos) = self.counts();
+                new(months, days, nanos)
+            }
+        }
+    }
+
+    /// Now and then a part of one more record.
+    fn part(&mut self, all: &mut Vec<u8>, size: usize) {
+        if self.below(8) == 0 {
+            let more = self.below(size as u64) as usize;
+            all.extend((0..more).map(|_| self.next() as u8));
+        }
     }
 }
 

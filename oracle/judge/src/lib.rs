@@ -21,6 +21,7 @@ pub mod page;
 pub mod place;
 pub mod postgres;
 pub mod printing;
+pub mod records;
 pub mod site;
 
 pub use Answer::*;

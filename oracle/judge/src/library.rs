@@ -67,6 +67,8 @@ pub mod raw {
             cells_len: usize,
             index: &mut usize,
         ) -> u8;
+        pub fn cullpethi_day_time_to_month_day_nano(from: *const u8, from_len: usize, to: *mut u8, to_len: usize) -> u8;
+        pub fn cullpethi_month_day_nano_to_day_time(from: *const u8, from_len: usize, to: *mut u8, to_len: usize, index: &mut usize) -> u8;
     }
 }
 

@@ -1,5 +1,6 @@
 //! Times of the library beside the Rust's: which readers, what they may take, and the table.
 pub mod columns;
+pub mod records;
 pub mod sides;
 pub mod svg;
 pub mod texts;

@@ -1,6 +1,6 @@
 //! bench WHEN [PAGE PICTURE]: prints the tables of times; PAGE gets them between their marks, and PICTURE the readers' ratios as an SVG.
-//! bench WHEN same-order: prints the readers' table for texts in one order. bench WHEN columns: prints the table of whole columns.
-use judge::bench::{columns, examples, rows, sides::ROUNDS, svg, table, texts::TEXTS};
+//! bench WHEN same-order: prints the readers' table for texts in one order. bench WHEN columns, bench WHEN records: prints that table alone.
+use judge::bench::{columns, examples, records, rows, sides::ROUNDS, svg, table, texts::TEXTS};
 use judge::page;
 
 fn processor() -> String {
@@ -15,12 +15,22 @@ fn whole(when: &str) -> String {
     format!("{when}, on {}; {}.\n\n{}", processor(), rounds.join(", "), columns::table(&columns::rows()))
 }
 
+/// The table of conversions of records, and how it was measured.
+fn conversions(when: &str) -> String {
+    let rounds = records::SIZES.map(|(count, rounds)| format!("{rounds} rounds of {count} records"));
+    format!("{when}, on {}; {}.\n\n{}", processor(), rounds.join(", "), records::table(&records::rows()))
+}
+
 fn main() -> std::io::Result<()> {
     let args: Vec<String> = std::env::args().skip(1).collect();
     let when = args.first().expect("bench WHEN [PAGE PICTURE]");
     let word = args.get(1).map_or("", String::as_str);
     if word == "columns" {
         println!("{}", whole(when));
+        return Ok(());
+    }
+    if word == "records" {
+        println!("{}", conversions(when));
         return Ok(());
     }
     let same_order = word == "same-order";
@@ -32,10 +42,12 @@ fn main() -> std::io::Result<()> {
         return Ok(());
     }
     let whole = whole(when);
-    println!("\n{whole}");
+    let conversions = conversions(when);
+    println!("\n{whole}\n\n{conversions}");
     if let [_, to, picture] = &args[..] {
         page::rewrite(to, "oracle/bench", &format!("{how}\n\n{table}\n\nThe first two texts of each set:\n\n{}", examples()))?;
         page::rewrite(to, "oracle/bench columns", &whole)?;
+        page::rewrite(to, "oracle/bench records", &conversions)?;
         std::fs::write(picture, svg::picture(&rows))?;
     }
     Ok(())

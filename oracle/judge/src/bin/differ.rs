@@ -1,11 +1,13 @@
 //! differ SEED COUNT [stamps]: the Rust and the library on the same texts, COUNT for each family and besides all short texts over small alphabets,
 //! COUNT / 4 more intervals with a fault, and the listing of each interval; of each stamp, and of more about second 60, the site stamp; then
-//! COUNT / 4 intervals and extreme ones printed; then whole columns, COUNT / 20 of each of the ten.
+//! COUNT / 4 intervals and extreme ones printed; then whole columns, COUNT / 20 of each of the ten; then COUNT / 4 slices of records each way,
+//! and extreme ones.
 use judge::column::{accepted, by_library, by_rust, Texts, Whole, COLUMNS};
 use judge::generate::{extremes, Family, Generator};
 use judge::library::told;
 use judge::place::Placed;
 use judge::printing::Printings;
+use judge::records::{new, old, Conversions};
 use judge::site::{on_each_day, Sites};
 use judge::*;
 
@@ -268,6 +270,26 @@ fn intervals(seed: u64, count: u64) -> Printings {
     n
 }
 
+/// Records converted: of all combinations of extreme numbers one each, and generated slices.
+fn records(seed: u64, count: u64) -> Conversions {
+    let mut n = Conversions::default();
+    let narrow = extremes(i32::MIN.into(), i32::MAX.into());
+    let wide = extremes(i64::MIN, i64::MAX).into_iter().chain(narrow.iter().flat_map(|z| [z * 1_000_000, z * 1_000_000 - 1, z * 1_000_000 + 1]));
+    let wide: Vec<i64> = wide.chain([1 << 31, -(1 << 31) - 1].map(|z| z * 1_000_000)).collect();
+    for days in &narrow {
+        narrow.iter().for_each(|millis| n.slice(&old(*days as i32, *millis as i32), false));
+        for months in [0, 1, -1, i32::MIN, i32::MAX] {
+            wide.iter().for_each(|nanos| n.slice(&new(months, *days as i32, *nanos), true));
+        }
+    }
+    let mut g = Generator::new(seed ^ 33 << 56);
+    for _ in 0..count {
+        n.slice(&g.old_records(), false);
+        n.slice(&g.new_records(), true);
+    }
+    n
+}
+
 /// Tells the places and the listings of the intervals.
 fn tell_intervals(n: &Counts, l: &Printings) {
     let [of_8, of_9, of_10] = n.places;
@@ -330,7 +352,12 @@ fn main() {
     );
     let [all, accepted, refused, not_read, differ] = columns(seed, count / 20);
     println!("Whole columns: compared {all}, accepted {accepted}, a text refused {refused}, not read {not_read}, different {differ}");
-    let (mut compared, mut failed) = (all + n.compared, differ + n.differ);
+    let r = records(seed, count / 4);
+    println!(
+        "Records: compared {}, converted {}, a record stays {}, buffer too short {}, no whole number {}, came back {}, different {}",
+        r.compared, r.converted, r.stays, r.too_short, r.uneven, r.came_back, r.differ
+    );
+    let (mut compared, mut failed) = (all + n.compared + r.compared, differ + n.differ + r.differ);
     families.iter().for_each(|[all, differ]| (compared, failed) = (compared + all, failed + differ));
     finish(compared, failed);
 }
