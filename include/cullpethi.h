@@ -1,4 +1,5 @@
-/* Readers of dates, times of day, timestamps and intervals, printing of intervals, and conversion of interval records, proved in Rattle.
+/* Readers of dates, times of day, timestamps and intervals, printing of intervals, conversion of interval records, and every small interval
+ * text for a keypad's test, proved in Rattle.
  * Link with libcullpethi.a.
  *
  * Each function returns CULLPETHI_OK and writes its cells, or returns a refusal's number and leaves every cell as it was, but for the one
@@ -36,6 +37,7 @@ enum cullpethi_status {
     CULLPETHI_COLUMN = 13,       /* the ends of a column's texts fall or pass the bytes, or there are fewer cells than ends */
     CULLPETHI_BUFFER = 14,       /* the buffer is too short */
     CULLPETHI_RECORDS = 16,      /* the bytes are no whole number of records */
+    CULLPETHI_KEYPAD = 17,       /* no keypad text has this number */
     CULLPETHI_NO_UNIT = 255,     /* the number of a default unit is none of cullpethi_unit */
     CULLPETHI_NO_COLUMN = 255    /* the number of a column is none of cullpethi_column */
 };
@@ -139,8 +141,8 @@ uint8_t cullpethi_parse_interval_month_day_nano(const uint8_t *text, size_t len,
 uint8_t cullpethi_parse_interval_month_day_nano_config(const uint8_t *text, size_t len, uint8_t default_unit, int32_t *months,
                                                        int32_t *days, int64_t *nanos, size_t *place);
 
-/* The two functions that print have `buffer_len` bytes at `buffer` and a cell `length`. Buffer, cells and text are apart from one another.
- * Where `buffer_len` is 0, `buffer` may be any pointer but NULL.
+/* The two functions that print, and cullpethi_keypad_text, have `buffer_len` bytes at `buffer` and a cell `length`. Buffer, cells and text are
+ * apart from one another. Where `buffer_len` is 0, `buffer` may be any pointer but NULL.
  *
  * CULLPETHI_OK: the buffer begins with what is printed, in ASCII and without an end mark, and `length` holds how many bytes that is. The
  * bytes past it are kept: they are not stored to.
@@ -194,6 +196,17 @@ uint8_t cullpethi_day_time_to_month_day_nano(const uint8_t *from, size_t from_le
  * months are not 0, whose nanoseconds are no multiple of 1,000,000, or whose milliseconds do not fit 32 bits. Months are not turned into
  * days. With any other number `index` is not stored to. */
 uint8_t cullpethi_month_day_nano_to_day_time(const uint8_t *from, size_t from_len, uint8_t *to, size_t to_len, size_t *index);
+
+/* How many keypad texts there are: 120 of one component, 13,200 of two and 1,320,000 of three. */
+#define CULLPETHI_KEYPAD_TEXTS 1333320
+
+/* Keypad text `k`, from 0, into `buffer`: see the functions that print. The texts are all interval texts of one to three components, each a digit
+ * and one of c, dec, y, mon, w, d, h, m, s, ms, us, nanosecond, no unit twice, with single spaces: `0c` is the first and `9nanosecond 9us 9ms`
+ * the last. Those of fewer components come first, then they go component by component from the left, each by its digit and then by its unit in
+ * that order. A reader of months, days and nanoseconds accepts every one, with any default unit. 21 bytes are always enough.
+ *
+ * CULLPETHI_KEYPAD: `k` is CULLPETHI_KEYPAD_TEXTS or more. Then CULLPETHI_BUFFER. */
+uint8_t cullpethi_keypad_text(uint64_t k, uint8_t *buffer, size_t buffer_len, size_t *length);
 
 #ifdef __cplusplus
 }

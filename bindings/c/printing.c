@@ -1,4 +1,4 @@
-/* Calls the two functions that print, with a buffer of every length up to that of what is printed, and longer ones. What a call must not store
+/* Calls the functions that print, and that which gives a keypad text, with a buffer of every length up to that of what is printed, and longer ones. What a call must not store
  * to cannot be written: the buffer, `length` and `place` with a refusal that keeps them, and the bytes of the buffer past what is printed. So
  * a store of even the same value would end the program: what no contract can say of the time during a call. The text cannot be written
  * either. Text, buffer and cells stand against a page that cannot be touched. */
@@ -36,7 +36,8 @@ static void map(void) {
 /* The last n bytes of a page. */
 static void *last(int which, size_t n) { return pages[which] + page_size - n; }
 
-/* What is called: the printing of an interval, or, with a text, its listing; and what is expected of a buffer that is long enough. */
+/* What is called: the printing of an interval; with a text, its listing; or a keypad text by its number; and what is expected of a buffer that is
+ * long enough. */
 struct expected {
     int32_t months, days;
     int64_t nanos;
@@ -46,10 +47,13 @@ struct expected {
     size_t place;
     const char *printed;
     size_t printed_len;
+    int keypad;
+    uint64_t k;
 };
 
 static uint8_t call(const struct expected *e, uint8_t *buffer, size_t room) {
     size_t *length = last(LENGTH, sizeof *length);
+    if (e->keypad) return cullpethi_keypad_text(e->k, buffer, room, length);
     if (e->text == NULL) return cullpethi_write_interval(e->months, e->days, e->nanos, buffer, room, length);
     return cullpethi_list_interval(last(TEXT, e->len), e->len, e->unit, buffer, room, length, last(PLACE, sizeof(size_t)));
 }
@@ -103,16 +107,19 @@ static void expect(struct expected e) {
         passed++;
     } else {
         failed++;
-        printf("failed: %d %d %lld, '%.*s' in unit %u\n", e.months, e.days, (long long)e.nanos, (int)e.len, e.text ? e.text : "", e.unit);
+        printf("failed: %d %d %lld, '%.*s' in unit %u, keypad text %llu\n", e.months, e.days, (long long)e.nanos, (int)e.len, e.text ? e.text : "", e.unit,
+               (unsigned long long)e.k);
     }
 }
 
 #define WRITTEN(months, days, nanos, text) \
-    expect((struct expected){months, days, nanos, NULL, 0, 0, CULLPETHI_OK, 0, text, sizeof(text) - 1})
+    expect((struct expected){months, days, nanos, NULL, 0, 0, CULLPETHI_OK, 0, text, sizeof(text) - 1, 0, 0})
 #define LISTED(unit, text, lines) \
-    expect((struct expected){0, 0, 0, text, sizeof(text) - 1, unit, CULLPETHI_OK, 0, lines, sizeof(lines) - 1})
+    expect((struct expected){0, 0, 0, text, sizeof(text) - 1, unit, CULLPETHI_OK, 0, lines, sizeof(lines) - 1, 0, 0})
 #define REFUSED(unit, text, status, place) \
-    expect((struct expected){0, 0, 0, text, sizeof(text) - 1, unit, status, place, NULL, 0})
+    expect((struct expected){0, 0, 0, text, sizeof(text) - 1, unit, status, place, NULL, 0, 0, 0})
+#define KEYPAD(k, text) expect((struct expected){0, 0, 0, NULL, 0, 0, CULLPETHI_OK, 0, text, sizeof(text) - 1, 1, k})
+#define NO_KEYPAD(k) expect((struct expected){0, 0, 0, NULL, 0, 0, CULLPETHI_KEYPAD, 0, NULL, 0, 1, k})
 
 static void written(void) {
     WRITTEN(0, 0, 0, "0 months");
@@ -162,6 +169,23 @@ static void no_unit(void) {
     }
 }
 
+/* The seams, and 17 whatever the buffer. */
+static void keypad(void) {
+    KEYPAD(0, "0c");
+    KEYPAD(11, "0nanosecond");
+    KEYPAD(12, "1c");
+    KEYPAD(119, "9nanosecond");
+    KEYPAD(120, "0c 0dec");
+    KEYPAD(230, "0dec 0c");
+    KEYPAD(13319, "9nanosecond 9us");
+    KEYPAD(13320, "0c 0dec 0y");
+    KEYPAD(134422, "0nanosecond 0dec 0mon");
+    KEYPAD(CULLPETHI_KEYPAD_TEXTS - 1, "9nanosecond 9us 9ms");
+    NO_KEYPAD(CULLPETHI_KEYPAD_TEXTS);
+    NO_KEYPAD(UINT64_C(1) << 32);
+    NO_KEYPAD(UINT64_MAX);
+}
+
 int main(void) {
     page_size = (size_t)sysconf(_SC_PAGESIZE);
     map();
@@ -169,6 +193,7 @@ int main(void) {
     listed();
     refused();
     no_unit();
+    keypad();
     printf("%u passed, %u failed\n", passed, failed);
     return failed != 0;
 }

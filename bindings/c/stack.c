@@ -53,8 +53,9 @@ static void run(void) {
     case 18: cullpethi_list_interval(text, length, CULLPETHI_HOUR, buffer, sizeof buffer, &written, &place); break;
     case 19: cullpethi_day_time_to_month_day_nano(text, length / 8 * 8, buffer, sizeof buffer); break;
     case 20: cullpethi_month_day_nano_to_day_time(text, length / 16 * 16, buffer, sizeof buffer, &place); break;
+    case 21: cullpethi_keypad_text(CULLPETHI_KEYPAD_TEXTS - 1, buffer, sizeof buffer, &written); break;
     default: /* a column of one text, or what a call of nothing takes */
-        if (which >= 21) column(which - 21);
+        if (which >= 22) column(which - 22);
         break;
     }
 }
@@ -90,7 +91,7 @@ int main(void) {
     stack = malloc(ROOM);
     if (stack == NULL) return 2;
     size_t most = 0, nothing = used(-1, "");
-    for (int function = 0; function < 31; function++)
+    for (int function = 0; function < 32; function++)
         for (size_t i = 0; i < sizeof texts / sizeof texts[0]; i++) {
             size_t n = used(function, texts[i]) - nothing;
             if (n > most) most = n;

@@ -1,5 +1,5 @@
 //! Readers of dates, times of day, timestamps and intervals, proved in Rattle, under the names of arrow-cast's `parse` module; printing of
-//! intervals; and conversion of their records.
+//! intervals; conversion of their records; and every small interval text, for a keypad's test.
 //!
 //! | what is read | readers |
 //! |---|---|
@@ -19,6 +19,11 @@
 //! | Arrow's day-time records of 8 bytes to month-day-nano records of 16 | [`day_time_to_month_day_nano`], [`day_time_to_month_day_nano_vec`] |
 //! | and back | [`month_day_nano_to_day_time`], [`month_day_nano_to_day_time_vec`] |
 //!
+//! | what a keypad's test wants | by |
+//! |---|---|
+//! | interval text k of all of one to three components, as `9d 0c 1ms` | [`keypad_text`] |
+//! | all of them, in order | [`keypad_texts`] |
+//!
 //! Each reader takes a [`Text`], bytes or characters, and gives its value or one [`Refusal`]. Three refusals of an interval tell where in
 //! the text they lie: see [`Refusal::place`]. The columns of arrow are types with a `parse` besides, as in arrow-cast: see [`Parser`].
 //!
@@ -33,6 +38,7 @@
 
 mod columns;
 mod intervals;
+mod keypad;
 mod library;
 mod printing;
 mod records;
@@ -44,6 +50,7 @@ mod whole;
 
 pub use columns::*;
 pub use intervals::*;
+pub use keypad::*;
 pub use printing::*;
 pub use records::*;
 pub use refusal::Refusal;

@@ -103,6 +103,12 @@ extern "C" {
         to_len: usize,
         index: *mut usize,
     ) -> u8;
+    pub fn cullpethi_keypad_text(
+        k: u64,
+        buffer: *mut u8,
+        buffer_len: usize,
+        length: *mut usize,
+    ) -> u8;
 }
 
 /// The value that a function writes into its one cell.

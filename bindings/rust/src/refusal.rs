@@ -23,6 +23,7 @@ use std::fmt;
 /// assert_eq!(parse_column(Column::Date32, "", &[1], &mut [0]).unwrap_err().refusal, Refusal::Column);
 /// assert_eq!(write_interval(IntervalMonthDayNano::new(1, 0, 0), &mut [0; 7]), Err(Refusal::Buffer));
 /// assert_eq!(day_time_to_month_day_nano(&[0; 9], &mut [0; 32]), Err(Refusal::Records));
+/// assert_eq!(keypad_text(1_333_320, &mut [0; 21]), Err(Refusal::Keypad));
 /// ```
 #[derive(Clone, Copy, Debug, PartialEq, Eq, Hash, PartialOrd, Ord)]
 pub enum Refusal {
@@ -71,10 +72,12 @@ pub enum Refusal {
     Buffer,
     /// The bytes are no whole number of records: `[0; 9]`, of day-time records.
     Records,
+    /// No keypad text has this number: `1_333_320`.
+    Keypad,
 }
 
 impl Refusal {
-    /// The refusal's number, from 1 to 16: what the C interface returns.
+    /// The refusal's number, from 1 to 17: what the C interface returns.
     ///
     /// ```
     /// assert_eq!(cullpethi::Refusal::Tail.number(), 5);
@@ -97,6 +100,7 @@ impl Refusal {
             Refusal::Column => 13,
             Refusal::Buffer => 14,
             Refusal::Records => 16,
+            Refusal::Keypad => 17,
         }
     }
 
@@ -134,6 +138,7 @@ impl Refusal {
             13 => Refusal::Column,
             14 => Refusal::Buffer,
             16 => Refusal::Records,
+            17 => Refusal::Keypad,
             // 255 comes only of a number that `Column` does not have.
             n => unreachable!("{n} is no refusal of a call that has no place"),
         })
@@ -180,6 +185,7 @@ impl fmt::Display for Refusal {
             Refusal::Column => "the ends of a column's texts fall or pass the bytes, or there are fewer cells than ends",
             Refusal::Buffer => "the buffer is too short",
             Refusal::Records => "the bytes are no whole number of records",
+            Refusal::Keypad => "no keypad text has this number",
         })?;
         match self.place() {
             Some(place) => write!(f, ", at byte {place}"),

@@ -31,7 +31,7 @@ use Rattle.number.specs.Widths.{in_signed, floor}
 use Rattle.refusal.specs.Attempts.{or_else, divided}
 use Rattle.refusal.specs.Outcome.{Outcome, accepted, refused, because, and_then, in_utf8, number_of}
 use Rattle.refusal.specs.declared.Refusal.{Refusal}
-use Rattle.refusal.specs.declared.Refusal.TheVariants.{NotUtf8, Date, Separator, Time, Tail, Offset as OfOffset, Range, TimeOfDay, Interval, RepeatedUnit, Overflow, Narrowed, SiteStamp, Column as OfColumn, Buffer as OfBuffer, Records as OfRecords}
+use Rattle.refusal.specs.declared.Refusal.TheVariants.{NotUtf8, Date, Separator, Time, Tail, Offset as OfOffset, Range, TimeOfDay, Interval, RepeatedUnit, Overflow, Narrowed, SiteStamp, Column as OfColumn, Buffer as OfBuffer, Records as OfRecords, Keypad as OfKeypad}
 use Rattle.text.specs.Trim.{trimmed}
 use Rattle.utf8.specs.Utf8.{utf8}
 use Rattle.time.specs.Answer.{time_of_day, time_nanos}
@@ -230,6 +230,7 @@ at_least_1 SiteStamp = lit≤ tt
 at_least_1 OfColumn = lit≤ tt
 at_least_1 OfBuffer = lit≤ tt
 at_least_1 OfRecords = lit≤ tt
+at_least_1 OfKeypad = lit≤ tt
 
 -- the numbers of the list are 1 to 12, and 15
 pub range : {n : ℕ} → OnList n → (1 ≤ n) × ((n ≤ 12) ⊎ (n ≡ 15))

@@ -1,14 +1,14 @@
 -- The numbers of the calls that write texts: a listing's is 14, 255 or the reader's, which is on document 01's list (`numbered`). So a status of 0
--- means that the text is written (`written_status_0`, `listed_status_0`). Assumes nothing.
+-- means that the text is written (`written_status_0`, `listed_status_0`, `keypad_status_0`). Assumes nothing.
 use mathlib.Core.Path.{◌≡◌, refl, sym, ap}
 use mathlib.Core.Logic.{◌↔◌}
 use mathlib.Core.List.{List}
 use Rattle.std.specs.Prelude.{Option, None, Some}
-use Prim.Native.Nat.{ℕ, ◌≤◌}
+use Prim.Native.Nat.{ℕ, ◌≤◌, ◌<◌}
 use native.Mathlib.Omega.{arith}
-use lib.Dec.{leb}
+use lib.Dec.{leb, ltb}
 use lib.ListN.{length}
-use borrow.Author.Tests.{leb-true, leb-false}
+use borrow.Author.Tests.{leb-true, leb-false, ltb-true, ltb-false}
 use Rattle.text.proofs.Bools.{by_test}
 use Rattle.amount.specs.Grammar.{precision}
 use Rattle.unit.specs.Units.{unit_numbered}
@@ -19,6 +19,8 @@ use Rattle.rule.specs.Contribution.{Counts}
 use Rattle.rule.specs.Answer.{month_day_nano}
 use Rattle.component.specs.Division.{divide}
 use Rattle.listing.specs.Lines.{lines_if, listing}
+use Rattle.keypad.specs.Answer.{text_of, keypad_text}
+use Rattle.keypad.proofs.Agreement.{with_text, without_text}
 use Rattle.buffer.specs.Written.{in_room, length_of}
 use Rattle.cells.specs.Cells.{Told, ToldText}
 use Rattle.cullpethi.specs.Calls.{interval_month_day_nano_config, Accepts, accepts, OnList}
@@ -60,3 +62,17 @@ listed_status_0 unit t status m n before after told = by (in_room (length before
     by (accepted w) e q = (λ s. accepts w, λ a. q.0)
     by (refused k) e q =
         (λ s. absurd (omega (arith, s, q.0, (range (numbered unit t (length before) k e (λ h. omega (arith, s, q.0)) (λ h. omega (arith, s, q.0)))).0)), λ a. absurd (not_refused a refl))
+
+-- of a keypad text: that the number has one, and that there is room for it
+pub keypad_status_0 : (k status m n : ℕ) (before after : List ℕ) → ToldText (keypad_text k) status m n before after
+    → (status ≡ 0) ↔ ((k < 1_333_320) × (length (text_of k) ≤ length before))
+keypad_status_0 k status m n before after t =
+    by_test (ltb k 1_333_320)
+    (λ h.
+    let l = ltb-true k 1_333_320 h in
+    let w = written_status_0 (text_of k) status m n before after (rw (with_text k l) at t) in
+    (λ s. (l, w.0 s), λ p. w.1 p.1))
+    (λ h.
+    let l = ltb-false k 1_333_320 h in
+    let q = rw (without_text k l) at t in
+    (λ s. absurd (omega (arith, s, q.0.0)), λ p. absurd (omega (arith, p.0))))

@@ -16,6 +16,7 @@ ghost use Rattle.place.specs.Where.{place as place_of};
 ghost use Rattle.interval_text.specs.Text.{interval_text};
 ghost use Rattle.refusal.specs.Outcome.{accepted};
 ghost use Rattle.records.specs.Answer.{month_day_nanos, day_times};
+ghost use Rattle.keypad.specs.Answer.{keypad_text};
 ghost use Rattle.cells.specs.Cells.{Told, ToldPlace, ToldText, ToldColumn, ToldRecords, in_cells, index_of};
 ghost use Rattle.parse_column.specs.Numbers.{column_numbered};
 ghost use Rattle.cullpethi.specs.ColumnNumber.{in_column};
@@ -250,4 +251,12 @@ pub extern "C" fn cullpethi_month_day_nano_to_day_time(
     ensures { ToldRecords (day_times from.now (length to.old)) result to.old to.new × ToldPlace (index_of (day_times from.now (length to.old))) index.old index.new }
 {
     cullpethi::cullpethi_month_day_nano_to_day_time(from, to, index)
+}
+
+// Keypad text k, into a buffer: `length` is how many bytes were written; 17 where there is no text k, then 14 where the buffer is too short.
+#[unsafe(no_mangle)]
+pub extern "C" fn cullpethi_keypad_text(k: u64, buffer: &mut [u8], length: &mut usize) -> u8
+    ensures { ToldText (keypad_text k) result length.old length.new buffer.old buffer.new }
+{
+    cullpethi::cullpethi_keypad_text(k, buffer, length)
 }

@@ -16,7 +16,7 @@ pub fn names(to: Streams) {
         b"the readers are string_to_timestamp_nanos, site_stamp, timestamp_nanosecond, timestamp_microsecond, \
         timestamp_millisecond, timestamp_second, string_to_time_nanoseconds, time64_nanosecond, time64_microsecond, \
         time32_millisecond, time32_second, date32, date64, interval, interval_year_month, interval_day_time, \
-        list; print_interval prints";
+        list; print_interval prints, and keypad gives a keypad text";
     output::said(to, &[names]);
 }
 
@@ -28,9 +28,10 @@ pub fn all(to: Streams) -> Result<Status, Failure> {
     dates(&mut out);
     intervals(&mut out);
     printing(&mut out);
+    keypad(&mut out);
     refusals(&mut out);
     out.put(
-        b"\nExit status: 0 each text was read, or the interval printed, 1 a text was refused or too long, 2 bad usage or no input or output.\n",
+        b"\nExit status: 0 each text was read, or the interval or keypad text printed, 1 one was refused or too long, 2 bad usage or no input or output.\n",
     );
     told(to, out.as_bytes())
 }
@@ -41,6 +42,7 @@ pub fn one(to: Streams, task: Task) -> Result<Status, Failure> {
     match task {
         Task::Read(reader) => group(reader, &mut out),
         Task::PrintInterval => printing(&mut out),
+        Task::Keypad => keypad(&mut out),
     }
     out.put(b"\nThe other readers, the options and the refusals: cullpethi --help\n");
     told(to, out.as_bytes())
@@ -82,6 +84,7 @@ cullpethi READER [-]        read each line of standard input, of at most 65536 b
 cullpethi READER --help     what the reader reads
 cullpethi print_interval MONTHS DAYS NANOSECONDS
                             print an interval
+cullpethi keypad K          print keypad text K
 ",
     );
     out.put(
@@ -180,6 +183,17 @@ An interval as text:
     );
 }
 
+fn keypad(out: &mut Out) {
+    out.put(
+        b"
+Keypad texts, all interval texts of one to three components:
+  keypad                      that of a number from 0 to 1333319, which is an argument; standard input is not read. Each component is a
+                              digit and c, dec, y, mon, w, d, h, m, s, ms, us or nanosecond, no unit twice: fewer components
+                              first, then from the left, by digit, then by unit in that order
+",
+    );
+}
+
 fn units(out: &mut Out) {
     out.put(
         b"  UNIT, in capital or small letters:
@@ -204,8 +218,8 @@ fn refusals(out: &mut Out) {
         b"\nA text that is refused has no value, but a number and what it means; 8, 9 and 10 tell the byte of the text, from 0, where that
 begins, and a text that was an argument, or whose answer goes to a terminal, is shown with a caret below that place:\n",
     );
-    // Refusal::Column is of whole columns, which this program does not read, Refusal::Buffer of a buffer too short, which it does not lend, and
-    // Refusal::Records of records, which it does not convert.
+    // Refusal::Column is of whole columns, which this program does not read, Refusal::Buffer of a buffer too short, which it does not lend,
+    // Refusal::Records of records, which it does not convert; and Refusal::Keypad of a number, which is no text.
     for why in [
         Refusal::NotUtf8,
         Refusal::Date,

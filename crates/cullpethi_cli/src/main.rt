@@ -1,5 +1,5 @@
 // The command line: reads a text, or each line of standard input, by the reader that is named, and writes the counts or the refusal; or prints
-// an interval.
+// an interval; or writes a keypad text.
 #![tactic(auto)]
 
 use names::{Reader, Task};
@@ -9,7 +9,7 @@ use show::Outcome;
 use std::env::Env;
 use std::io::IsTerminal;
 use std::process::ExitCode;
-use words::{Source, THREE_NUMBERS, Words};
+use words::{ONE_NUMBER, Source, THREE_NUMBERS, Words};
 
 mod answer;
 mod caret;
@@ -68,6 +68,7 @@ fn command(env: &impl Env, to: Streams) -> Result<Status, Failure> {
         Some(task) if words.help => help::one(to, task),
         Some(Task::Read(reader)) => with_reader(env, to, words, reader),
         Some(Task::PrintInterval) => printed(to, words),
+        Some(Task::Keypad) => keypad(to, words),
         None if words.help => help::all(to),
         None => Err(output::bad_usage(to, b"no reader is named")),
     }
@@ -96,6 +97,16 @@ fn printed(to: Streams, words: Words) -> Result<Status, Failure> {
     };
     let mut out = Room::new();
     let outcome = show::printed(interval, words.number, &mut out);
+    output::written(to, out.as_bytes())?;
+    Ok(outcome.status())
+}
+
+fn keypad(to: Streams, words: Words) -> Result<Status, Failure> {
+    let Some(k) = words.keypad else {
+        return Err(output::bad_usage(to, ONE_NUMBER));
+    };
+    let mut out = Room::new();
+    let outcome = show::keypad(k, words.number, &mut out);
     output::written(to, out.as_bytes())?;
     Ok(outcome.status())
 }

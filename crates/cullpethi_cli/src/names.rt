@@ -7,12 +7,15 @@ pub enum Task {
     Read(Reader),
     // Three numbers are printed as an interval.
     PrintInterval,
+    // A number's keypad text is written.
+    Keypad,
 }
 
 impl Task {
     pub fn named(name: &[u8]) -> Option<Task> {
         match name {
             b"print_interval" => Some(Task::PrintInterval),
+            b"keypad" => Some(Task::Keypad),
             _ => Reader::named(name).map(Task::Read),
         }
     }

@@ -1,4 +1,4 @@
-// The numbers of an interval, as words of the command line.
+// The numbers of an interval and of a keypad text, as words of the command line.
 use count::{Days, Months, Nanos};
 use number::parse::parse;
 use total::Interval;
@@ -45,4 +45,9 @@ impl Numbers {
             nanos: Nanos(self.nanos?),
         })
     }
+}
+
+// The number of a keypad text, from 0 on.
+pub fn whole(word: &[u8]) -> Option<u64> {
+    str::from_utf8(word).ok()?.parse::<u64>().ok()
 }

@@ -4,6 +4,7 @@ use crate::{Asked, Status, answer};
 use count::Months;
 use interval::IntervalDayTime;
 use interval_text::write_interval;
+use keypad::keypad_text;
 use listing::ListRefusal;
 use place::IntervalRefusal;
 use refusal::Refusal;
@@ -49,12 +50,27 @@ pub fn printed(interval: Interval, number: bool, out: &mut Out) -> Outcome {
     put_line_number(number, 1, out);
     // The longest text has 68 bytes.
     let mut buffer = [0u8; 68];
-    let outcome = match write_interval(interval, &mut buffer) {
-        Ok(length) => put_text(buffer.get(..length).unwrap_or(&buffer), out),
-        Err(why) => refused_whole(why, out),
-    };
+    let outcome = written(write_interval(interval, &mut buffer), &buffer, out);
     out.put(b"\n");
     outcome
+}
+
+// The line of a keypad text; its number in front, if asked.
+pub fn keypad(k: u64, number: bool, out: &mut Out) -> Outcome {
+    put_line_number(number, 1, out);
+    // The longest text has 21 bytes.
+    let mut buffer = [0u8; 21];
+    let outcome = written(keypad_text(k, &mut buffer), &buffer, out);
+    out.put(b"\n");
+    outcome
+}
+
+// The text that a buffer begins with.
+fn written(r: Result<usize, Refusal>, buffer: &[u8], out: &mut Out) -> Outcome {
+    match r {
+        Ok(length) => put_text(buffer.get(..length).unwrap_or(buffer), out),
+        Err(why) => refused_whole(why, out),
+    }
 }
 
 fn put_line_number(asked: bool, number: u64, out: &mut Out) {
@@ -217,5 +233,6 @@ fn meaning(why: Refusal) -> &'static [u8] {
         Refusal::Buffer => b"the buffer is too short",
         // The program converts no records.
         Refusal::Records => b"the bytes are no whole number of records",
+        Refusal::Keypad => b"no keypad text has this number",
     }
 }

@@ -1,6 +1,6 @@
 // The words of the command line.
 use crate::names::{Reader, Task};
-use crate::numbers::Numbers;
+use crate::numbers::{Numbers, whole};
 use crate::output::{Failure, Streams};
 use crate::{help, output};
 use lines::input::split_once;
@@ -10,6 +10,8 @@ use unit::IntervalUnit;
 // What is said where there are other words.
 pub const THREE_NUMBERS: &[u8] =
     b"print_interval takes three whole numbers, months and days of 32 bits, nanoseconds of 64";
+
+pub const ONE_NUMBER: &[u8] = b"keypad takes one whole number from 0 on, of 64 bits";
 
 // Where the texts come from.
 #[derive(Clone, Copy)]
@@ -43,6 +45,8 @@ pub struct Words {
     pub source: Option<Source>,
     // Those of `print_interval`.
     pub numbers: Numbers,
+    // That of `keypad`.
+    pub keypad: Option<u64>,
     expected: Expected,
 }
 
@@ -56,6 +60,7 @@ pub fn all(env: &impl Env, to: Streams) -> Result<Words, Failure> {
         number: false,
         source: None,
         numbers: Numbers::none(),
+        keypad: None,
         expected: Expected::Any,
     };
     // What `arg` fills.
@@ -137,6 +142,7 @@ impl Words {
         match self.task {
             None => return Err(no_such_reader(to, b"-")),
             Some(Task::PrintInterval) => return self.take_number(to, b"-"),
+            Some(Task::Keypad) => return self.take_keypad(to, b"-"),
             Some(Task::Read(_)) => (),
         }
         if self.source.is_some() {
@@ -152,6 +158,7 @@ impl Words {
             None => self.take_task(to, word),
             Some(Task::Read(_)) => self.take_text(to, word, at),
             Some(Task::PrintInterval) => self.take_number(to, word),
+            Some(Task::Keypad) => self.take_keypad(to, word),
         }
     }
 
@@ -176,6 +183,14 @@ impl Words {
         if !self.numbers.take(word) {
             return Err(output::bad_word(to, THREE_NUMBERS, word));
         }
+        Ok(())
+    }
+
+    fn take_keypad(&mut self, to: Streams, word: &[u8]) -> Result<(), Failure> {
+        let (None, Some(k)) = (self.keypad, whole(word)) else {
+            return Err(output::bad_word(to, ONE_NUMBER, word));
+        };
+        self.keypad = Some(k);
         Ok(())
     }
 }

@@ -18,6 +18,7 @@ pub fn of(out: &impl Print, name: &[u8], text: &[u8]) -> io::Result<()> {
         b"column" => whole::of(out, text),
         b"write" => printing::write(out, text),
         b"list" => printing::list(out, text),
+        b"keypad" => printing::keypad(out, text),
         b"to_month_day_nano" => conversion::records(out, false, text),
         b"to_day_time" => conversion::records(out, true, text),
         _ => ground(out, name, text),

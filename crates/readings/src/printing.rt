@@ -1,7 +1,7 @@
 // Printing, by the delivered calls, into a buffer of a given length, which is shown whole. Before the call each of its bytes is a point, and what
 // else the call may write is the greatest number, so that what it does not write shows.
 use crate::show;
-use cullpethi::{cullpethi_list_interval, cullpethi_write_interval};
+use cullpethi::{cullpethi_keypad_text, cullpethi_list_interval, cullpethi_write_interval};
 use lines::input::split_once;
 use number::parse::parse;
 use std::io;
@@ -58,6 +58,28 @@ fn listed(out: &impl Print, text: &[u8], unit: &[u8], buffer: &mut [u8]) -> io::
     let status = cullpethi_list_interval(text, unit, buffer, &mut length, &mut place);
     told(out, status, length, place)?;
     show::text(out, buffer)
+}
+
+// The buffer's length; then a bar and the number of a keypad text.
+pub fn keypad(out: &impl Print, text: &[u8]) -> io::Result<()> {
+    let Some((length, k)) = split_once(text, b'|') else {
+        return show::bytes(out, b"no bar");
+    };
+    let Some(k) = whole(k) else {
+        return show::bytes(out, b"no whole number");
+    };
+    let mut space = [b'.'; 1024];
+    let Some(buffer) = lent(&mut space, length) else {
+        return show::bytes(out, b"no length of a buffer");
+    };
+    let mut length = usize::MAX;
+    let status = cullpethi_keypad_text(k, buffer, &mut length);
+    told(out, status, length, usize::MAX)?;
+    show::text(out, buffer)
+}
+
+fn whole(s: &[u8]) -> Option<u64> {
+    str::from_utf8(s).ok()?.parse::<u64>().ok()
 }
 
 // The front of the room, as long as a number says.

@@ -3,7 +3,7 @@
 use Rattle.std.specs.Prelude.{cond, List, ℕ, Result, Ok, Err}
 use Rattle.utf8.specs.Utf8.{utf8}
 use Rattle.refusal.specs.declared.Refusal.{Refusal}
-use Rattle.refusal.specs.declared.Refusal.TheVariants.{NotUtf8, Date, Separator, Time, Tail, Offset, Range, TimeOfDay, Interval, RepeatedUnit, Overflow, Narrowed, SiteStamp, Column, Buffer, Records}
+use Rattle.refusal.specs.declared.Refusal.TheVariants.{NotUtf8, Date, Separator, Time, Tail, Offset, Range, TimeOfDay, Interval, RepeatedUnit, Overflow, Narrowed, SiteStamp, Column, Buffer, Records, Keypad}
 
 -- a value and nothing else, or a refusal's number and nothing else
 pub data Outcome (A : Type 0) : Type 0 where
@@ -11,7 +11,7 @@ pub data Outcome (A : Type 0) : Type 0 where
   refused : ℕ → Outcome A
 
 -- document 01's number of each refusal of a text, and document 02's (15: No. 6) where it is checked; behind them document 02's of a whole call
--- (13: No. 1; 14: No. 4; 16: No. 8)
+-- (13: No. 1; 14: No. 4; 16: No. 8; 17: No. 9)
 abbrev pub number_of : Refusal → ℕ
 number_of NotUtf8 = 1
 number_of Date = 2
@@ -29,6 +29,7 @@ number_of SiteStamp = 12
 number_of Column = 13
 number_of Buffer = 14
 number_of Records = 16
+number_of Keypad = 17
 
 -- a refusal as an outcome
 abbrev pub because : {A : Type 0} → Refusal → Outcome A

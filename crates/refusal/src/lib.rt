@@ -39,6 +39,8 @@ pub enum Refusal {
     Buffer = 14,
     // The bytes are no whole number of records.
     Records = 16,
+    // No keypad text has this number.
+    Keypad = 17,
 }
 
 impl Refusal {
