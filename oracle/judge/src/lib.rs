@@ -15,6 +15,7 @@ pub enum Answer {
 pub mod bench;
 pub mod column;
 pub mod generate;
+pub mod keypad;
 pub mod library;
 pub mod lines;
 pub mod page;

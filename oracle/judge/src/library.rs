@@ -69,6 +69,7 @@ pub mod raw {
         ) -> u8;
         pub fn cullpethi_day_time_to_month_day_nano(from: *const u8, from_len: usize, to: *mut u8, to_len: usize) -> u8;
         pub fn cullpethi_month_day_nano_to_day_time(from: *const u8, from_len: usize, to: *mut u8, to_len: usize, index: &mut usize) -> u8;
+        pub fn cullpethi_keypad_text(k: u64, buffer: *mut u8, buffer_len: usize, length: &mut usize) -> u8;
     }
 }
 

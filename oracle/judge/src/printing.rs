@@ -27,7 +27,7 @@ const LONGEST_TEXT: usize = 68;
 const LONGEST_LISTING: usize = 12 * 66;
 
 /// A call with a buffer of so many bytes, the length and the place.
-fn called(room: usize, call: impl FnOnce(*mut u8, &mut usize, &mut usize) -> u8) -> Print {
+pub fn called(room: usize, call: impl FnOnce(*mut u8, &mut usize, &mut usize) -> u8) -> Print {
     let mut buffer = vec![BEFORE; room + BEHIND];
     let (mut length, mut place) = (NOWHERE, NOWHERE);
     let status = call(buffer.as_mut_ptr(), &mut length, &mut place);
@@ -127,7 +127,7 @@ impl Printings {
     }
 
     /// A buffer of the most that is printed, of just enough, of one byte less and of some length below; or, with a refusal, of any.
-    fn calls(&mut self, want: &Print, most: usize, call: impl Fn(usize) -> Print, what: impl Fn() -> String) {
+    pub fn calls(&mut self, want: &Print, most: usize, call: impl Fn(usize) -> Print, what: impl Fn() -> String) {
         let rooms = match want {
             Print::Printed(text) => vec![most, text.len(), text.len() - 1, self.compared as usize % text.len()],
             Print::Refused(..) => vec![0, self.compared as usize % most],
@@ -147,13 +147,13 @@ impl Printings {
     }
 
     /// Whether the Rust reads a text as that interval: its plain reader, and the other with each default unit.
-    fn reads_back(&mut self, text: &str, want: Answer) {
+    pub fn reads_back(&mut self, text: &str, want: Answer) {
         for reader in std::iter::once(Reader::IntervalMonthDayNano).chain((0..12).map(Reader::IntervalConfig)) {
             self.compared += 1;
             self.read_back += 1;
             let read = rust(reader, text);
             if read != want {
-                self.differs(|| format!("{want:?} printed {text:?} read as {read:?} by {reader:?}"));
+                self.differs(|| format!("{want:?} written {text:?} read as {read:?} by {reader:?}"));
             }
         }
     }

@@ -1,9 +1,10 @@
 //! differ SEED COUNT [stamps]: the Rust and the library on the same texts, COUNT for each family and besides all short texts over small alphabets,
 //! COUNT / 4 more intervals with a fault, and the listing of each interval; of each stamp, and of more about second 60, the site stamp; then
 //! COUNT / 4 intervals and extreme ones printed; then whole columns, COUNT / 20 of each of the ten; then COUNT / 4 slices of records each way,
-//! and extreme ones.
+//! and extreme ones; and all keypad texts.
 use judge::column::{accepted, by_library, by_rust, Texts, Whole, COLUMNS};
 use judge::generate::{extremes, Family, Generator};
+use judge::keypad;
 use judge::library::told;
 use judge::place::Placed;
 use judge::printing::Printings;
@@ -357,7 +358,12 @@ fn main() {
         "Records: compared {}, converted {}, a record stays {}, buffer too short {}, no whole number {}, came back {}, different {}",
         r.compared, r.converted, r.stays, r.too_short, r.uneven, r.came_back, r.differ
     );
-    let (mut compared, mut failed) = (all + n.compared + r.compared, differ + n.differ + r.differ);
+    let k = keypad::all();
+    println!(
+        "Keypad texts: compared {}, written {}, buffer too short {}, no such text {}, readings of it by the Rust {}, different {}",
+        k.compared, k.printed, k.too_short, k.refused, k.read_back, k.differ
+    );
+    let (mut compared, mut failed) = (all + n.compared + r.compared + k.compared, differ + n.differ + r.differ + k.differ);
     families.iter().for_each(|[all, differ]| (compared, failed) = (compared + all, failed + differ));
     finish(compared, failed);
 }
