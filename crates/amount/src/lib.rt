@@ -11,6 +11,7 @@ mod parts;
 pub use held::IntervalAmount;
 
 // The amount at a place, and where it ends; or none, and that place. A minus is a sign, a plus is none; past the text's end there is none.
+#[inline(always)]
 pub fn amount_at(text: &[u8], at: usize) -> Result<(IntervalAmount, usize), usize>
     ensures { amount_is precision text.now at result }
 {

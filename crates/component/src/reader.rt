@@ -15,6 +15,7 @@ pub struct Reader<'a> {
 
 impl<'a> Reader<'a> {
     // At a place of a text.
+    #[inline(always)]
     pub fn new(text: &'a [u8], at: usize) -> Reader<'a>
         ensures { (result.text ≡ text.entry) × (result.at ≡ at) }
     {
@@ -22,6 +23,7 @@ impl<'a> Reader<'a> {
     }
 
     // Where it stands.
+    #[inline(always)]
     pub fn at(self) -> usize
         ensures { result ≡ self.entry.at }
     {
@@ -29,6 +31,7 @@ impl<'a> Reader<'a> {
     }
 
     // The component at its place.
+    #[inline(always)]
     pub fn next(self) -> Result<Piece, usize>
         requires { self.at ≤ length self.text.now }
         ensures { piece_is precision self.entry.text.now self.entry.at result }
@@ -37,6 +40,7 @@ impl<'a> Reader<'a> {
     }
 
     // Moved on behind a component that was read at its place.
+    #[inline(always)]
     pub fn after(self, piece: Result<Piece, usize>) -> Reader<'a>
         ensures { (result.text ≡ self.entry.text) × (result.at ≡ place_after self.entry.text.now self.entry.at piece) }
     {
@@ -49,6 +53,7 @@ impl<'a> Reader<'a> {
 }
 
 // The component at a place of a text and where a reader goes from there, by one that is made here, so that a caller holds none.
+#[inline(always)]
 pub fn component_at(text: &[u8], at: usize) -> Taken
     requires { at ≤ length text.now }
     ensures { taken_is precision text.now at result }

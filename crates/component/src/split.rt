@@ -11,6 +11,7 @@ use amount::IntervalAmount;
 use unit::{Word, words};
 
 // A byte that ends an amount piece: no digit, no point, no minus.
+#[inline(always)]
 #[tactic(auto, unfolding(crate::specs::Fault::in_amount))]
 pub fn not_interval_amount(b: u8) -> bool
     ensures { result ≡ not (in_amount b) }
@@ -20,6 +21,7 @@ pub fn not_interval_amount(b: u8) -> bool
 
 // Where a component goes wrong whose unit, looked for from `began` on, is none, behind an amount that ends at `end`: there, or at its
 // amount, if the amount piece goes on, as in `1-2 days`.
+#[inline(always)]
 pub fn bad_unit(text: &[u8], at: usize, end: usize, began: usize) -> usize
     ensures { result ≡ cond (in_amount (get_or text.now end 0)) at began }
 {
@@ -31,6 +33,7 @@ pub fn bad_unit(text: &[u8], at: usize, end: usize, began: usize) -> usize
 }
 
 // A component whose amount stands from `at` to `end`: its unit follows, glued or behind white space, or nothing does.
+#[inline(always)]
 pub fn unit_at(text: &[u8], at: usize, amount: IntervalAmount, end: usize) -> Result<Piece, usize>
     requires { ReadIs precision text.now at (value_of amount) end }
     ensures { piece_is precision text.now at result }
@@ -47,6 +50,7 @@ pub fn unit_at(text: &[u8], at: usize, amount: IntervalAmount, end: usize) -> Re
 }
 
 // The component at a place.
+#[inline(always)]
 pub fn split_interval_component(text: &[u8], at: usize) -> Result<Piece, usize>
     requires { at ≤ length text.now }
     ensures { piece_is precision text.now at result }
@@ -56,6 +60,7 @@ pub fn split_interval_component(text: &[u8], at: usize) -> Result<Piece, usize>
 }
 
 // Where a reader goes on behind a component: it stays where there is none.
+#[inline(always)]
 #[tactic(auto, unfolding(crate::specs::Read::place_after))]
 pub fn place_after(text: &[u8], at: usize, piece: Result<Piece, usize>) -> usize
     ensures { result ≡ place_after text.now at piece }

@@ -21,6 +21,7 @@ pub struct Letters {
 }
 
 // The letter that a text begins with, in either case; U+212A is a k.
+#[inline(always)]
 #[tactic(auto, unfolding(crate::specs::Keys::letter_of, crate::specs::Keys::plain_letter, crate::specs::Units::kelvin, crate::specs::Units::low))]
 pub fn first_letter(text: &[u8]) -> Option<Letter>
     ensures { result ≡ front_of text.now }
@@ -34,13 +35,17 @@ pub fn first_letter(text: &[u8]) -> Option<Letter>
             code: (*b - 0x40) as u64,
             width: 1,
         }),
-        [0xE2, 0x84, 0xAA, ..] => Some(Letter { code: 11, width: 3 }),
-        _ => None,
+        // In a match of its own: beside the others its length is asked before any letter is looked at.
+        _ => match text {
+            [0xE2, 0x84, 0xAA, ..] => Some(Letter { code: 11, width: 3 }),
+            _ => None,
+        },
     }
 }
 
 // The letters at a place, as many as a unit can have, packed as digits of base 32, and the place where they end, which callers are told: it
 // goes up by one or, for U+212A, by three.
+#[inline(always)]
 pub fn letters_at(text: &[u8], from: usize) -> Letters
     requires { from ≤ length text.now }
     ensures { LettersIs text.now from result }
@@ -59,6 +64,7 @@ pub fn letters_at(text: &[u8], from: usize) -> Letters
 }
 
 // The unit whose spelling has that key.
+#[inline(always)]
 pub fn unit_of_key(key: u64) -> Option<IntervalUnit>
     ensures { result ≡ by_key key spellings }
 {

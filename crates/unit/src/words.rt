@@ -21,6 +21,7 @@ impl IntervalUnit {
 
 // The length of the white space character at a place, 0 for none, as the definition has it: nearly always one space. Text and place go side by
 // side, as `white_at` says.
+#[inline(always)]
 pub fn white_len(text: &[u8], at: usize) -> usize
     ensures { (result ≡ white_len (drop at text.now)) × (result ≤ length text.now - at) }
 {
@@ -32,6 +33,7 @@ pub fn white_len(text: &[u8], at: usize) -> usize
 }
 
 // The unit of the word at a place: letters, behind which white space must follow, or nothing; the place where there is none.
+#[inline(always)]
 pub fn word_at(text: &[u8], at: usize) -> Result<Word, usize>
     ensures { word_is text.now at result }
 {
