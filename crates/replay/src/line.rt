@@ -1,4 +1,5 @@
 // A line: a reader's name, the stored answer and the text, parted by spaces.
+use crate::answer::Answer;
 use crate::reader;
 use lines::escape::unescape;
 use lines::input::split_once;
@@ -13,15 +14,21 @@ pub fn passes(out: &impl Print, line: &[u8]) -> io::Result<bool> {
     let Some((stored, written)) = split_once(rest, b' ') else {
         return failed(out, line, b"no text");
     };
-    let mut text = Room::<65536>::new();
-    unescape(written, &mut text);
-    let Some(found) = reader::of(name, text.as_bytes()) else {
+    let Some(found) = answered(name, written) else {
         return failed(out, line, b"");
     };
     if agree(stored, found.as_bytes()) {
         return Ok(true);
     }
     failed(out, line, found.as_bytes())
+}
+
+// What the library answers to a text that a line writes; nothing where there is no such reader. In a function of its own, so that no room is made
+// for a line that has no text.
+fn answered(name: &[u8], written: &[u8]) -> Option<Answer> {
+    let mut text = Room::<65536>::new();
+    unescape(written, &mut text);
+    reader::of(name, text.as_bytes())
 }
 
 // Whether the answers agree; where the Rust does not tell the number of a refusal, 2 and 6 are possible.
