@@ -1,16 +1,7 @@
 // An input line by line, however long it is.
-ghost use Rattle.std.specs.Prelude.{◌≡◌, ◌<◌, ◌≤◌, length, MatchOption};
-
-use crate::input::take_line;
-use room::Room;
+use crate::held::HeldLine;
 use std::io;
 use std::io::Read;
-
-// The longest line that is read.
-const LONGEST: usize = 65536;
-
-// A line of which one byte more is held is too long, however much comes behind.
-const HELD: usize = LONGEST + 1;
 
 // What is done with the lines of an input.
 pub trait EachLine {
@@ -47,7 +38,7 @@ pub trait EachLine {
 pub fn each_line<E: EachLine>(input: &mut impl Read, each: &mut E) -> Result<(), E::Error>
     ensures { E.keeps each.old each.new }
 {
-    let mut line = Room::<HELD>::new();
+    let mut line = HeldLine::new();
     // What `read` fills.
     let mut piece = [0u8; 65536];
     // A proved loop has to end, and nothing says that the input does: no run uses up so many turns.
@@ -59,34 +50,23 @@ pub fn each_line<E: EachLine>(input: &mut impl Read, each: &mut E) -> Result<(),
         each_in(&piece[..n], &mut line, each)?;
         each.pause()?;
     }
-    if line.is_empty() {
+    let line = line.whole();
+    if matches!(line, Some([])) {
         return Ok(());
     }
-    each.unended(whole(&line))?;
+    each.unended(line)?;
     each.pause()
 }
 
 // Each line that ends in these bytes; the rest is held.
-fn each_in<E: EachLine>(input: &[u8], line: &mut Room<HELD>, each: &mut E) -> Result<(), E::Error>
+fn each_in<E: EachLine>(input: &[u8], line: &mut HeldLine, each: &mut E) -> Result<(), E::Error>
     ensures { E.keeps each.old each.new }
 {
     let mut rest = input;
-    while let Some(behind) = take_line(rest, line) {
-        each.line(whole(line))?;
+    while let Some(behind) = line.take(rest) {
+        each.line(line.whole())?;
         line.clear();
         rest = behind;
     }
     Ok(())
-}
-
-// A line that is not too long.
-fn whole(line: &Room<HELD>) -> Option<&[u8]>
-    ensures { MatchOption result (65536 < length line.now) (λ x. (length line.now ≤ 65536) × (x.now ≡ line.now)) }
-{
-    let line = line.as_bytes();
-    if LONGEST < line.len() {
-        None
-    } else {
-        Some(line)
-    }
 }
