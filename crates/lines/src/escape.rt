@@ -12,7 +12,7 @@ pub fn unescape<const N: usize>(s: &[u8], out: &mut Room<N>)
     out.clear();
     let mut rest = s;
     while let Some((byte, behind)) = first(rest) {
-        out.put(&[byte]);
+        out.put_byte(byte);
         rest = behind;
     }
 }

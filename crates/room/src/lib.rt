@@ -2,7 +2,7 @@
 // Writing itself stays in the programs: no contract can say what is written.
 #![tactic(auto)]
 
-ghost use Rattle.std.specs.Prelude.{◌≡◌, ◌==◌, [], ◌≤◌, List, ℕ, length, take};
+ghost use Rattle.std.specs.Prelude.{◌≡◌, ◌==◌, [], ◌∷◌, ◌≤◌, List, ℕ, length, take};
 ghost use Rattle.decimal.specs.Decimal.{decimal, signed_text};
 ghost use Rattle.room.specs.Room.{appended};
 
@@ -63,6 +63,17 @@ impl<const N: usize> Room<N> {
         let bytes = &mut self.bytes[..];
         bytes[self.len..end].copy_from_slice(&s[..fits]);
         self.len = end;
+    }
+
+    // Puts one byte by a store, where `put` calls for a copy: a text put byte by byte takes half the time.
+    #[inline(always)]
+    pub fn put_byte(&mut self, byte: u8)
+        ensures { self.new ≡ appended N self.old (byte ∷ []) }
+    {
+        if self.len < N {
+            self.bytes[self.len] = byte;
+            self.len += 1;
+        }
     }
 
     // A number's digits.
