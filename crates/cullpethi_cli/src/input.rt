@@ -23,6 +23,8 @@ struct Lines {
     status: Status,
 }
 
+// Not laid in, as `one_text`.
+#[inline(never)]
 pub fn each(to: Streams, asked: Asked) -> Result<Status, Failure> {
     let mut lines = Lines {
         to,

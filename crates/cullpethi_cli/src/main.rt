@@ -111,7 +111,8 @@ fn keypad(to: Streams, words: Words) -> Result<Status, Failure> {
     Ok(outcome.status())
 }
 
-// The argument is there, so all that can be wrong is its length.
+// The argument is there, so all that can be wrong is its length. Not laid in, so that its room does not stand on the stack beside that of lines.
+#[inline(never)]
 fn one_text(env: &impl Env, to: Streams, at: usize, asked: Asked) -> Result<Status, Failure> {
     // What `arg` fills.
     let mut space = [0u8; 65536];
