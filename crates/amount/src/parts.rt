@@ -18,7 +18,7 @@ pub struct Number {
 }
 
 // One digit more, up to a number that fits with no sign: no `checked_mul`, since the length is wanted where the number is too large, too; and no
-// `saturating_mul`, which makes half as many instructions again of a digit.
+// `saturating_mul`, with which a digit takes half as many instructions again.
 #[inline(always)]
 pub fn push(v: u64, d: u64) -> u64
     ensures { result ≡ min (v * 10 + d) cap }

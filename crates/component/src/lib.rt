@@ -26,7 +26,7 @@ pub struct Taken {
 }
 
 // The component at a place of a text, and the place to go on from; past the text's end there is none. Laid into both loops that read components,
-// with all that it calls here, in `amount` and in `unit`: as a call, whose answer goes by memory, it takes long intervals a fifth more.
+// with all that it calls here, in `amount` and in `unit`: with a call, whose answer goes by memory, long intervals take a fifth more.
 #[inline(always)]
 pub fn component(text: &[u8], at: usize) -> Taken
     ensures { taken_is precision text.now at result }

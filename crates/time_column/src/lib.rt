@@ -31,7 +31,7 @@ pub type Time32MillisecondType = TimeType<Millisecond>;
 pub type Time32SecondType = TimeType<Second>;
 
 impl<C: TimeColumn> TimeType<C> {
-    // A time; failing that, an integer; failing that, a time once trimmed. Laid into `parse_column`, where a call takes short times a tenth more.
+    // A time; failing that, an integer; failing that, a time once trimmed. Laid into `parse_column`: with a call short times take a tenth more.
     #[inline(always)]
     pub fn parse(s: &[u8]) -> Result<C::Native, Refusal>
         ensures { outcome result ≡ C.reads s.now }
