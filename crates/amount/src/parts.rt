@@ -1,4 +1,4 @@
-// The parts of an amount: digits as a number, the fraction, and what stands behind the sign.
+// The parts of an amount: digits as a number, the fraction, and what stands behind the sign. Laid in, as `component::component` says.
 ghost use Rattle.std.specs.Prelude.{◌≡◌, ◌+◌, ◌*◌, ◌^◌, ◌≤◌, ◌<◌, min, length, drop};
 ghost use Rattle.number.specs.Widths.{signed};
 ghost use Rattle.amount.specs.Grammar.{precision};

@@ -17,36 +17,37 @@ pub held_line : (room : ℕ) (held x : List ℕ)
     → (length (appended (suc room) held x) ≡ min (length held + length x) (suc room)) × (take room (appended (suc room) held x) ≡ appended room held x)
 held_line room held x = (omega (arith, length-take (suc room) (held ++ x), length-append held x), take-take room (suc room) (held ++ x) (omega arith))
 
-too_long : (t : List ℕ) → 65536 < length t → told t ≡ None
+too_long : (longest : ℕ) (t : List ℕ) → longest < length t → told longest t ≡ None
 unfolding told
-too_long t h = rw (lt-ltb 65536 (length t) h)
+too_long longest t h = rw (lt-ltb longest (length t) h)
 
-short : (t : List ℕ) → length t ≤ 65536 → told t ≡ Some t
+short : (longest : ℕ) (t : List ℕ) → length t ≤ longest → told longest t ≡ Some t
 unfolding told
-short t h = rw (le-ltb 65536 (length t) h)
+short longest t h = rw (le-ltb longest (length t) h)
 
--- what is told of bytes and more behind them, of which one more than the longest line's are held
-on : (held x : List ℕ) → told (appended 65537 held x) ≡ told (held ++ x)
-on held x = by_test (ltb 65536 (length held + length x))
-    (λ e. let h : 65536 < length held + length x = ltb-true 65536 (length held + length x) e in
-    too_long (appended 65537 held x) (omega (arith, (held_line 65536 held x).0)) ∙ sym (too_long (held ++ x) (omega (arith, length-append held x))))
-    (λ e. let h : length held + length x ≤ 65536 = ltb-false 65536 (length held + length x) e in
-    ap told (take_all 65537 (held ++ x) (omega (arith, length-append held x))))
+-- one byte more than the longest line's is held of bytes and more behind them, which tells as much as all of them
+all_told : (longest : ℕ) (held x : List ℕ) → told longest (appended (suc longest) held x) ≡ told longest (held ++ x)
+all_told longest held x = by_test (ltb longest (length held + length x))
+    (λ p. let h : longest < length held + length x = ltb-true longest (length held + length x) p in
+    too_long longest (appended (suc longest) held x) (omega (arith, (held_line longest held x).0)) ∙ sym (too_long longest (held ++ x) (omega (arith, length-append held x))))
+    (λ p. let h : length held + length x ≤ longest = ltb-false longest (length held + length x) p in
+    ap (told longest) (take_all (suc longest) (held ++ x) (omega (arith, length-append held x))))
 
-as_long : (held t x : List ℕ) → told held ≡ told t → told (held ++ x) ≡ told (t ++ x)
-as_long held t x e = by_test (ltb 65536 (length held))
-    (λ p. let h : 65536 < length held = ltb-true 65536 (length held) p in
-    by_test (ltb 65536 (length t))
-    (λ q. let k : 65536 < length t = ltb-true 65536 (length t) q in
-    too_long (held ++ x) (omega (arith, length-append held x)) ∙ sym (too_long (t ++ x) (omega (arith, length-append t x))))
-    (λ q. let n : Some t ≡ None = sym (short t (ltb-false 65536 (length t) q)) ∙ (sym e ∙ too_long held h) in cc))
-    (λ p. let s : told held ≡ Some held = short held (ltb-false 65536 (length held) p) in
-    by_test (ltb 65536 (length t))
-    (λ q. let n : Some held ≡ None = sym s ∙ (e ∙ too_long t (ltb-true 65536 (length t) q)) in cc)
-    (λ q. let n : Some held ≡ Some t = sym s ∙ (e ∙ short t (ltb-false 65536 (length t) q)) in
-    let m : held ≡ t = cc in
-    rw m))
+-- two lines of which the same is told are both too long or are one line, and so they are with more behind both
+with_more : (longest : ℕ) (s t x : List ℕ) → told longest s ≡ told longest t → told longest (s ++ x) ≡ told longest (t ++ x)
+with_more longest s t x e = by_test (ltb longest (length s))
+    (λ p. let h : longest < length s = ltb-true longest (length s) p in
+    by_test (ltb longest (length t))
+    (λ q. let k : longest < length t = ltb-true longest (length t) q in
+    too_long longest (s ++ x) (omega (arith, length-append s x)) ∙ sym (too_long longest (t ++ x) (omega (arith, length-append t x))))
+    (λ q. let n : Some t ≡ None = sym (short longest t (ltb-false longest (length t) q)) ∙ (sym e ∙ too_long longest s h) in cc))
+    (λ p. let m : told longest s ≡ Some s = short longest s (ltb-false longest (length s) p) in
+    by_test (ltb longest (length t))
+    (λ q. let n : Some s ≡ None = sym m ∙ (e ∙ too_long longest t (ltb-true longest (length t) q)) in cc)
+    (λ q. let n : Some s ≡ Some t = sym m ∙ (e ∙ short longest t (ltb-false longest (length t) q)) in
+    let same : s ≡ t = cc in
+    rw same))
 
 -- what is told of a line whose bytes are t, and of more bytes behind them, is what is told of what is held
-pub told_line : (held x t : List ℕ) → told held ≡ told t → told (appended 65537 held x) ≡ told (t ++ x)
-told_line held x t e = on held x ∙ as_long held t x e
+pub told_line : (longest : ℕ) (held x t : List ℕ) → told longest held ≡ told longest t → told longest (appended (suc longest) held x) ≡ told longest (t ++ x)
+told_line longest held x t e = all_told longest held x ∙ with_more longest held t x e

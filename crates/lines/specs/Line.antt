@@ -6,6 +6,6 @@ unfoldable pub before : ℕ → List ℕ → ℕ
 before b [] = 0
 before b (x ∷ t) = cond (eqb x b) 0 (suc (before b t))
 
--- what is told of a line: its bytes, or none where there are more than 65536
-unfoldable pub told : List ℕ → Option (List ℕ)
-told line = cond (ltb 65536 (length line)) None (Some line)
+-- what is told of a line: its bytes, or none where there are more than the longest line has
+unfoldable pub told : ℕ → List ℕ → Option (List ℕ)
+told longest line = cond (ltb longest (length line)) None (Some line)

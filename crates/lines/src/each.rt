@@ -50,11 +50,10 @@ pub fn each_line<E: EachLine>(input: &mut impl Read, each: &mut E) -> Result<(),
         each_in(&piece[..n], &mut line, each)?;
         each.pause()?;
     }
-    let line = line.whole();
-    if matches!(line, Some([])) {
+    if line.is_empty() {
         return Ok(());
     }
-    each.unended(line)?;
+    each.unended(line.whole())?;
     each.pause()
 }
 

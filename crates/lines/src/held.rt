@@ -1,5 +1,5 @@
 // A line as far as it has been read. Who holds it sees its bytes by `whole` alone, so that no line too long is taken for one that is not.
-ghost use Rattle.std.specs.Prelude.{◌≡◌, suc, ◌<◌, ◌≤◌, [], ◌++◌, None, Some, Option, List, ℕ, length, take, drop, MatchOption};
+ghost use Rattle.std.specs.Prelude.{◌≡◌, ◌==◌, false, suc, ◌<◌, ◌≤◌, [], ◌++◌, None, Some, Option, List, ℕ, length, take, drop, MatchOption};
 ghost use Rattle.lines.specs.Line.{before, told};
 
 use crate::input::take_line;
@@ -20,20 +20,20 @@ pub struct HeldLine {
 impl Model for HeldLine {
     ghost Value = { Option (List ℕ) };
 
-    ghost view = { λ l. told l.bytes };
+    ghost view = { λ l. told 65536 l.bytes };
 }
 
 impl HeldLine {
+    #[tactic(auto, unfolding(crate::specs::Line::told))]
     pub fn new() -> Self
-        ensures { result ≡ told [] }
+        ensures { result ≡ Some [] }
     {
         HeldLine { bytes: Room::new() }
     }
 
     // Puts the bytes up to the next line feed behind the line's, and tells what stands behind that line feed.
-    #[tactic(auto, using(crate::proofs::Taking::told_line))]
     pub fn take<'a>(&mut self, input: &'a [u8]) -> Option<&'a [u8]>
-        ensures line_after { (t : List ℕ) → self.old ≡ told t → self.new ≡ told (t ++ take (before 0x0A input.now) input.now) }
+        ensures line_after { (t : List ℕ) → self.old ≡ told 65536 t → self.new ≡ told 65536 (t ++ take (before 0x0A input.now) input.now) }
         ensures rest { MatchOption result (before 0x0A input.now ≡ length input.now) (λ x. (before 0x0A input.now < length input.now) × (x.now ≡ drop (suc (before 0x0A input.now)) input.now)) }
     {
         take_line(input, &mut self.bytes)
@@ -52,8 +52,16 @@ impl HeldLine {
         }
     }
 
+    #[tactic(auto, unfolding(crate::specs::Line::told))]
+    pub fn is_empty(&self) -> bool
+        ensures { MatchOption self.now (result ≡ false) (λ t. result ≡ (length t == 0)) }
+    {
+        self.bytes.is_empty()
+    }
+
+    #[tactic(auto, unfolding(crate::specs::Line::told))]
     pub fn clear(&mut self)
-        ensures { self.new ≡ told [] }
+        ensures { self.new ≡ Some [] }
     {
         self.bytes.clear();
     }

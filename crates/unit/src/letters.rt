@@ -1,5 +1,5 @@
 // The letters of a unit word, read at a place of a text as digits of base 32, and the unit by that number: letters come in either case, and
-// U+212A is a k, so that patterns of bytes would want a copy of the word in lower case.
+// U+212A is a k, so that patterns of bytes would want a copy of the word in lower case. Laid in, as `component::component` says.
 ghost use Rattle.std.specs.Prelude.{◌≡◌, ◌≤◌, length};
 ghost use Rattle.unit.specs.Units.{spellings};
 ghost use Rattle.unit.specs.Keys.{front_of, LettersIs, by_key};

@@ -1,4 +1,4 @@
-// Unit words, as Rust's `IntervalUnit::from_str` takes them.
+// Unit words, as Rust's `IntervalUnit::from_str` takes them. What reads them at a place is laid in, as `component::component` says.
 ghost use Rattle.std.specs.Prelude.{◌≡◌, ◌-◌, ◌≤◌, length, drop};
 ghost use Rattle.white.specs.WhiteSpace.{white_len};
 ghost use Rattle.unit.specs.Units.{unit_of};
