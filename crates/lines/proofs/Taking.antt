@@ -51,3 +51,7 @@ with_more longest s t x e = by_test (ltb longest (length s))
 -- what is told of a line whose bytes are t, and of more bytes behind them, is what is told of what is held
 pub told_line : (longest : ℕ) (held x t : List ℕ) → told longest held ≡ told longest t → told longest (appended (suc longest) held x) ≡ told longest (t ++ x)
 told_line longest held x t e = all_told longest held x ∙ with_more longest held t x e
+
+-- as the programs read lines
+pub of_65536 : (held x t : List ℕ) → told 65536 held ≡ told 65536 t → told 65536 (appended 65537 held x) ≡ told 65536 (t ++ x)
+of_65536 = told_line 65536

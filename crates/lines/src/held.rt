@@ -32,6 +32,7 @@ impl HeldLine {
     }
 
     // Puts the bytes up to the next line feed behind the line's, and tells what stands behind that line feed.
+    #[tactic(auto, using(crate::proofs::Taking::of_65536))]
     pub fn take<'a>(&mut self, input: &'a [u8]) -> Option<&'a [u8]>
         ensures line_after { (t : List ℕ) → self.old ≡ told 65536 t → self.new ≡ told 65536 (t ++ take (before 0x0A input.now) input.now) }
         ensures rest { MatchOption result (before 0x0A input.now ≡ length input.now) (λ x. (before 0x0A input.now < length input.now) × (x.now ≡ drop (suc (before 0x0A input.now)) input.now)) }
